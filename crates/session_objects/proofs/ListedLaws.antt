@@ -14,11 +14,11 @@ use Rattle.daq_members.specs.Members.{MemberSeen, FrontEnd, Logger, Analyzer}
 use Rattle.session_setup.specs.declared.declared.AnalyzerDeclared.{AnalyzerDeclared}
 use Rattle.session_setup.specs.declared.declared.DeclaredLists.{DeclaredLists}
 use Rattle.session_setup.specs.declared.declared.FrontDeclared.{FrontDeclared}
-use Rattle.session_objects.specs.declared.membership.MemberDeclared.{MemberDeclared}
-use Rattle.session_objects.specs.declared.membership.MemberDeclared.TheVariants.{FrontEnd as WantedFront, Logger as WantedLogger, Analyzer as WantedAnalyzer}
+use Rattle.session_setup.specs.declared.member.MemberDeclared.{MemberDeclared}
+use Rattle.session_setup.specs.declared.member.MemberDeclared.TheVariants.{FrontEnd as WantedFront, Logger as WantedLogger, Analyzer as WantedAnalyzer}
 use Rattle.session_objects.specs.declared.objects.SessionObjects.{SessionObjects}
 use Rattle.session_objects.specs.Calls.{Account, SessionCalls, account_or_none}
-use Rattle.session_objects.specs.DeclaredMembers.{calls_buffer, calls_database, declared_members, logger_number, member_count}
+use Rattle.session_setup.specs.DeclaredMembers.{calls_buffer, calls_database, declared_members, logger_number, member_count}
 use Rattle.session_objects.specs.Members.{AreMembersOf, HasAccount, HasLogger, CalledAt, AreCalledAt, IsMemberOf, FrontIs, LoggerIs, AnalyzerIs, IsFrontOf, IsLoggerOf, IsAnalyzerOf, IsOwnPort, account_of, accounts_of, front_account, logger_account, analyzer_account}
 use Rattle.session_objects.specs.declared.returning.LoggerEnd.{LoggerEnd}
 use Rattle.session_objects.specs.Returns.{left_also, left_among, end_of_member, logger_end}

@@ -15,12 +15,12 @@ use Rattle.daq_members.specs.FrontSeats.{FrontSeen}
 use Rattle.daq_members.specs.LoggerSeats.{LoggerSeen}
 use Rattle.daq_members.specs.Members.{MemberSeen, Logger}
 use Rattle.session_setup.specs.declared.declared.DeclaredLists.{DeclaredLists}
-use Rattle.session_objects.specs.declared.membership.MemberDeclared.{MemberDeclared}
-use Rattle.session_objects.specs.declared.membership.MemberDeclared.TheVariants.{Logger as WantedLogger}
+use Rattle.session_setup.specs.declared.member.MemberDeclared.{MemberDeclared}
+use Rattle.session_setup.specs.declared.member.MemberDeclared.TheVariants.{Logger as WantedLogger}
 use Rattle.session_objects.specs.declared.objects.SessionObjects.{SessionObjects}
 use Rattle.session_objects.specs.declared.returning.LoggerEnd.{LoggerEnd}
 use Rattle.session_objects.specs.Calls.{Account, SessionCalls, account_at, account_or_none, told_of_database}
-use Rattle.session_objects.specs.DeclaredMembers.{declared_members, logger_number, member_count}
+use Rattle.session_setup.specs.DeclaredMembers.{declared_members, logger_number, member_count}
 use Rattle.session_objects.specs.Members.{AreCalledAt, AreMembersOf, AreSeated, IsMemberOf, account_of, accounts_of, files_left, IsNewLogger, IsNewMember, NewFront, NewLogger, NewAnalyzer, IsNewMemberAt, HasNewMembers}
 use Rattle.session_objects.specs.Returns.{left_among}
 use Rattle.session_objects.specs.Rosters.{KeepsPasses, nothing_seen}

@@ -5,9 +5,9 @@ use mathlib.Core.Logic.{dite}
 use native.Mathlib.Decide.{ℕ_discrete, dec_le}
 use Rattle.std.proofs.lemmas.Bool.{lt-ltb, le-ltb}
 use Rattle.session_setup.specs.declared.declared.DeclaredLists.{DeclaredLists}
-use Rattle.session_objects.specs.declared.membership.MemberDeclared.{MemberDeclared}
-use Rattle.session_objects.specs.declared.membership.MemberDeclared.TheVariants.{FrontEnd as WantedFront, Logger as WantedLogger, Analyzer as WantedAnalyzer}
-use Rattle.session_objects.specs.DeclaredMembers.{calls_buffer, calls_database, declared_members, own_buffer}
+use Rattle.session_setup.specs.declared.member.MemberDeclared.{MemberDeclared}
+use Rattle.session_setup.specs.declared.member.MemberDeclared.TheVariants.{FrontEnd as WantedFront, Logger as WantedLogger, Analyzer as WantedAnalyzer}
+use Rattle.session_setup.specs.DeclaredMembers.{calls_buffer, calls_database, declared_members, own_buffer}
 use Rattle.session_objects.specs.Kept.{OutNumbers, callers_down, out_to, ports_out, buffer_out}
 use Rattle.session_objects.proofs.ChangeLaws.{some_same}
 use Rattle.session_objects.proofs.RosterLaws.{at_first, in_rest, in_list, none_in}

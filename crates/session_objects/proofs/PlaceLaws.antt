@@ -9,12 +9,12 @@ use Rattle.transition_lock.specs.SharedEngines.{engine_lock_of}
 use Rattle.odb_lock.specs.declared.shared.SharedOdb.{SharedOdb}
 use Rattle.odb_lock.specs.SharedOdbs.{odb_lock_of}
 use Rattle.session_setup.specs.declared.declared.DeclaredLists.{DeclaredLists}
-use Rattle.session_objects.specs.declared.membership.MemberDeclared.{MemberDeclared}
+use Rattle.session_setup.specs.declared.member.MemberDeclared.{MemberDeclared}
 use Rattle.session_objects.specs.declared.objects.SessionBuffer.{SessionBuffer}
 use Rattle.session_objects.specs.declared.objects.SessionObjects.{SessionObjects}
 use Rattle.session_objects.specs.declared.passes.SessionPasses.{SessionPasses}
 use Rattle.session_objects.specs.Rosters.{KeepsFresh, TakesFresh, ChangesAt, nothing_seen}
-use Rattle.session_objects.specs.DeclaredMembers.{calls_buffer, calls_database, caller_count, declared_members}
+use Rattle.session_setup.specs.DeclaredMembers.{calls_buffer, calls_database, caller_count, declared_members}
 use Rattle.session_objects.specs.Objects.{HaveCallers, SuitMembers}
 use Rattle.session_objects.specs.Kept.{OutNumbers, out_to, engine_out, database_out, buffer_out, HasFreshBut}
 use Rattle.session_objects.proofs.RosterLaws.{is_kept}

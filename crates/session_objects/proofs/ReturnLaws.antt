@@ -17,13 +17,13 @@ use Rattle.transition_lock.specs.SharedEngines.{engine_lock_of}
 use Rattle.odb_lock.specs.declared.shared.SharedOdb.{SharedOdb}
 use Rattle.odb_lock.specs.SharedOdbs.{odb_lock_of}
 use Rattle.session_setup.specs.declared.declared.DeclaredLists.{DeclaredLists}
-use Rattle.session_objects.specs.declared.membership.MemberDeclared.{MemberDeclared}
-use Rattle.session_objects.specs.declared.membership.MemberDeclared.TheVariants.{Logger as WantedLogger}
+use Rattle.session_setup.specs.declared.member.MemberDeclared.{MemberDeclared}
+use Rattle.session_setup.specs.declared.member.MemberDeclared.TheVariants.{Logger as WantedLogger}
 use Rattle.session_objects.specs.declared.objects.SessionBuffer.{SessionBuffer}
 use Rattle.session_objects.specs.declared.objects.SessionObjects.{SessionObjects}
 use Rattle.session_objects.specs.declared.passes.SessionPasses.{SessionPasses}
 use Rattle.session_objects.specs.Rosters.{ChangesAt, KeepsPasses, PutsBack}
-use Rattle.session_objects.specs.DeclaredMembers.{calls_buffer, calls_database, declared_members}
+use Rattle.session_setup.specs.DeclaredMembers.{calls_buffer, calls_database, declared_members}
 use Rattle.session_objects.specs.Kept.{OutNumbers, HasFreshBut, out_to, ports_out}
 use Rattle.session_objects.specs.Calls.{Account, SessionCalls, account_at, account_or_none, told_of_engine, told_of_database, told_of_buffer, told_through}
 use Rattle.session_objects.specs.Members.{HasAccount, IsOwnPort, CalledAt, AreCalledAt}

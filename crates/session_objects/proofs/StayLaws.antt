@@ -23,7 +23,7 @@ use Rattle.daq_members.specs.SeatedAnalyzers.{AnalyzerSeen, IsSameAnalyzer}
 use Rattle.daq_members.specs.Members.{MemberSeen, IsSameMember, SameFront, SameLogger, SameAnalyzer}
 use Rattle.session_setup.specs.declared.declared.AnalyzerDeclared.{AnalyzerDeclared}
 use Rattle.session_setup.specs.declared.declared.FrontDeclared.{FrontDeclared}
-use Rattle.session_objects.specs.declared.membership.MemberDeclared.{MemberDeclared}
+use Rattle.session_setup.specs.declared.member.MemberDeclared.{MemberDeclared}
 use Rattle.session_objects.specs.declared.objects.SessionBuffer.{SessionBuffer}
 use Rattle.session_objects.specs.declared.objects.SessionObjects.{SessionObjects}
 use Rattle.session_objects.specs.Members.{generator_takes, generator_makes, members_told, IsFrontOf, IsLoggerOf, IsAnalyzerOf, IsMemberOf, FrontIs, LoggerIs, AnalyzerIs, KeepsMembers, IsNewFront, IsNewLogger, IsNewAnalyzer, IsNewMember, NewFront, NewLogger, NewAnalyzer, new_port, event_rooms, event_room_of}

@@ -18,9 +18,9 @@ use Rattle.session_setup.specs.declared.declared.DeclaredLists.{DeclaredLists}
 use Rattle.session_setup.specs.Setup.{AreSound, declared_by, is_front_id}
 use Rattle.session_objects.specs.declared.objects.SessionBuffer.{SessionBuffer}
 use Rattle.session_objects.specs.declared.objects.SessionObjects.{SessionObjects}
-use Rattle.session_objects.specs.declared.membership.MemberDeclared.{MemberDeclared}
-use Rattle.session_objects.specs.declared.membership.MemberDeclared.TheVariants.{FrontEnd, Logger, Analyzer}
-use Rattle.session_objects.specs.DeclaredMembers.{calls_database, caller_count, declared_members, own_buffer}
+use Rattle.session_setup.specs.declared.member.MemberDeclared.{MemberDeclared}
+use Rattle.session_setup.specs.declared.member.MemberDeclared.TheVariants.{FrontEnd, Logger, Analyzer}
+use Rattle.session_setup.specs.DeclaredMembers.{calls_database, caller_count, declared_members, own_buffer}
 use Rattle.session_objects.specs.Objects.{AreObjectsOf, SuitMembers}
 use Rattle.session_objects.proofs.ChangeLaws.{some_same, there_below}
 use Rattle.session_objects.proofs.ListedLaws.{declared_analyzer, declared_front}

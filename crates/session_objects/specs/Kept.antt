@@ -10,12 +10,12 @@ use Rattle.odb_lock.specs.declared.locked.LockedDatabase.{LockedDatabase}
 use Rattle.odb_lock.specs.declared.shared.SharedOdb.{SharedOdb}
 use Rattle.odb_lock.specs.SharedOdbs.{odb_lock_of}
 use Rattle.session_setup.specs.declared.declared.DeclaredLists.{DeclaredLists}
-use Rattle.session_objects.specs.declared.membership.MemberDeclared.{MemberDeclared}
+use Rattle.session_setup.specs.declared.member.MemberDeclared.{MemberDeclared}
 use Rattle.session_objects.specs.declared.objects.SessionBuffer.{SessionBuffer}
 use Rattle.session_objects.specs.declared.objects.SessionObjects.{SessionObjects}
 use Rattle.session_objects.specs.declared.passes.SessionPasses.{SessionPasses}
 use Rattle.session_objects.specs.Rosters.{KeepsFresh, KeepsPasses, nothing_seen}
-use Rattle.session_objects.specs.DeclaredMembers.{calls_buffer, calls_database, declared_members, member_count}
+use Rattle.session_setup.specs.DeclaredMembers.{calls_buffer, calls_database, declared_members, member_count}
 
 -- The numbers of the passes that are with those that call by them: of the engine; of each buffer, by its number; and of
 -- the database.

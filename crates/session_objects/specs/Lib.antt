@@ -1,5 +1,4 @@
 pub mod Rosters
-pub mod DeclaredMembers
 pub mod Objects
 pub mod Kept
 pub mod Calls

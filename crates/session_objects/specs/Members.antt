@@ -41,9 +41,9 @@ use Rattle.daq_members.specs.SeatedAnalyzers.{AnalyzerSeen}
 use Rattle.daq_members.specs.Members.{MemberSeen, MemberTold, FrontEnd, Logger, Analyzer, IsSameMember, member_told}
 use Rattle.session_objects.specs.declared.objects.SessionBuffer.{SessionBuffer}
 use Rattle.session_objects.specs.declared.objects.SessionObjects.{SessionObjects}
-use Rattle.session_objects.specs.declared.membership.MemberDeclared.{MemberDeclared}
-use Rattle.session_objects.specs.declared.membership.MemberDeclared.TheVariants.{FrontEnd as WantedFront, Logger as WantedLogger, Analyzer as WantedAnalyzer}
-use Rattle.session_objects.specs.DeclaredMembers.{calls_buffer, declared_members, logger_number, member_count, own_buffer}
+use Rattle.session_setup.specs.declared.member.MemberDeclared.{MemberDeclared}
+use Rattle.session_setup.specs.declared.member.MemberDeclared.TheVariants.{FrontEnd as WantedFront, Logger as WantedLogger, Analyzer as WantedAnalyzer}
+use Rattle.session_setup.specs.DeclaredMembers.{calls_buffer, declared_members, logger_number, member_count, own_buffer}
 use Rattle.session_objects.specs.Calls.{Account, SessionCalls, account_at, account_or_none}
 
 -- what is seen of a ring buffer tells its window
@@ -62,6 +62,7 @@ generator_of front = record { id = front.id; mask = front.mask; limit = front.li
 abbrev pub generator_takes : Generator → Order → Bool
 generator_takes g order = nat_le order.quota g.limit
 
+-- the event of this number of a run that this order began
 abbrev pub generator_makes : Generator → Order → ℕ → Event
 generator_makes g order number = generated_event order g.id g.mask number
 

@@ -1,14 +1,11 @@
 -- How the members of a session are registered.
 use Rattle.std.specs.Prelude.{List, map}
-use Rattle.mid_logger.specs.ChannelTurns.{logger_name}
 use Rattle.session_runs.specs.declared.opening.MemberName.{MemberName}
-use Rattle.session_runs.specs.Members.{members_named}
-use Rattle.session_setup.specs.declared.declared.AnalyzerDeclared.{AnalyzerDeclared}
+use Rattle.session_runs.specs.Members.{member_in}
 use Rattle.session_setup.specs.declared.declared.DeclaredLists.{DeclaredLists}
-use Rattle.session_setup.specs.declared.declared.FrontDeclared.{FrontDeclared}
+use Rattle.session_setup.specs.declared.member.MemberDeclared.{MemberDeclared}
+use Rattle.session_setup.specs.DeclaredMembers.{declared_members, name_of_member, role_of_member}
 
--- the front-ends in the order of their declaration, behind them the logger, and behind that the analyzers in the order of
--- theirs
+-- those that were declared, in the order of their client numbers, each by its name and what it does
 abbrev pub member_names : DeclaredLists → List MemberName
-member_names lists =
-    members_named (map (λ (f : FrontDeclared). f.name) lists.fronts) logger_name (map (λ (a : AnalyzerDeclared). a.name) lists.analyzers)
+member_names lists = map (λ (m : MemberDeclared). member_in (role_of_member m) (name_of_member m)) (declared_members lists)

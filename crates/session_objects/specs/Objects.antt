@@ -14,8 +14,8 @@ use Rattle.session_setup.specs.declared.declared.FrontDeclared.{FrontDeclared}
 use Rattle.session_setup.specs.declared.declared.DeclaredLists.{DeclaredLists}
 use Rattle.session_objects.specs.declared.objects.SessionBuffer.{SessionBuffer}
 use Rattle.session_objects.specs.declared.objects.SessionObjects.{SessionObjects}
-use Rattle.session_objects.specs.declared.membership.MemberDeclared.{MemberDeclared}
-use Rattle.session_objects.specs.DeclaredMembers.{calls_database, caller_count, declared_members, own_buffer}
+use Rattle.session_setup.specs.declared.member.MemberDeclared.{MemberDeclared}
+use Rattle.session_setup.specs.DeclaredMembers.{calls_database, caller_count, declared_members, own_buffer}
 
 -- This buffer is the one that was declared, and so many callers share it.
 pub record IsBufferOf (declared : BufferDeclared) (count : ℕ) (buffer : SessionBuffer) : Type 0 where

@@ -6,13 +6,13 @@ ghost use Rattle.buffer_lock.specs.SharedPorts.{access_by};
 ghost use Rattle.odb_lock.specs.SharedAccesses.{access_by_pass};
 ghost use Rattle.analyzers.specs.AnalyzerKept.{AnalyzerStands, AnalyzerTells};
 ghost use Rattle.loggers.specs.NewLoggers.{HaveNumbers};
-ghost use Rattle.session_objects.specs.declared.membership.MemberDeclared.TheVariants.{FrontEnd as WantedFront, Logger as WantedLogger, Analyzer as WantedAnalyzer};
-ghost use Rattle.session_objects.specs.DeclaredMembers.{declared_members, logger_number, member_count};
+ghost use Rattle.session_setup.specs.declared.member.MemberDeclared.TheVariants.{FrontEnd as WantedFront, Logger as WantedLogger, Analyzer as WantedAnalyzer};
+ghost use Rattle.session_setup.specs.DeclaredMembers.{declared_members, logger_number, member_count};
 ghost use Rattle.session_objects.specs.Objects.{HaveBuffers, SuitMembers};
 ghost use Rattle.session_objects.specs.Kept.{OutNumbers, out_to, out_to_members, ports_out, engine_out, database_out, buffer_out, HasFreshBut, OthersSawNothing};
 ghost use Rattle.session_objects.specs.Members.{ring_window, new_ports, new_access, generator_of, event_room_of, event_rooms, idle_analyzer, files_left, IsNewPort, IsNewFront, IsNewLogger, IsNewAnalyzer, IsNewMemberAt, IsMadeLogger, HasNewMembers};
 
-use crate::membership::{MemberDeclared, Membership};
+use crate::membership::Membership;
 use crate::objects::SessionBuffer;
 use crate::passes::{SessionPasses, take_fresh};
 use crate::seats::{SessionAnalyzer, SessionFront, SessionLogger, SessionMember, SessionMembers};
@@ -31,7 +31,7 @@ use mid_logger::ChannelSpec;
 use odb_lock::{SharedAccess, SharedOdb};
 use odb_tree::Database;
 use ring_buffer::RingBuffer;
-use session_setup::{AnalyzerDeclared, FrontDeclared};
+use session_setup::{AnalyzerDeclared, FrontDeclared, MemberDeclared};
 use std::alloc::Global;
 
 /// How many bytes of its slot in a buffer are not an event's data.
@@ -321,7 +321,7 @@ impl<'a, 's, D: Database> Membership<'a, 's, D> {
         ensures kept { OnErr result (files.new ≡ files.old) }
         ensures same { OnErr result (passes.new ≡ passes.old) }
     {
-        match self.declared(client as usize) {
+        match self.lists.member(client as usize) {
             MemberDeclared::FrontEnd(declared) => {
                 let front = self.make_front(alloc, client, &declared, passes)?;
                 Ok(Member::new(MemberKind::FrontEnd(front)))

@@ -1,19 +1,11 @@
 // What the members of a session are made for.
 ghost use Rattle.std.specs.Prelude.{◌≡◌, ◌<◌, ◌≤◌, length, slice_get, Some};
-ghost use Rattle.session_objects.specs.DeclaredMembers.{declared_members, member_count, own_buffer};
+ghost use Rattle.session_setup.specs.DeclaredMembers.{declared_members, member_count, own_buffer};
 
 use crate::objects::SessionObjects;
 use odb_lock::SharedOdb;
 use odb_tree::Database;
-use session_setup::{AnalyzerDeclared, DeclaredLists, FrontDeclared};
-
-/// What was declared with a client number: which kind of member.
-#[derive(Clone, Copy, Debug)]
-pub enum MemberDeclared {
-    FrontEnd(FrontDeclared),
-    Logger,
-    Analyzer(AnalyzerDeclared),
-}
+use session_setup::DeclaredLists;
 
 /// What the members of a session call, and which members it has: its objects and its database, and what was declared.
 #[derive(Drop)]
@@ -30,22 +22,7 @@ impl<'a, 's, D: Database> Membership<'a, 's, D> {
         requires few_analyzers { length self.now.lists.now.analyzers ≤ 8 }
         ensures { result ≡ member_count self.now.lists.now }
     {
-        self.lists.fronts.len() as u32 + 1 + self.lists.analyzers.len() as u32
-    }
-
-    /// The member that was declared with this client number.
-    pub(crate) fn declared(&self, client: usize) -> MemberDeclared
-        requires { client < member_count self.now.lists.now }
-        ensures { slice_get (declared_members self.now.lists.now) client ≡ Some result }
-    {
-        let fronts = self.lists.fronts.as_slice();
-        if client < fronts.len() {
-            return MemberDeclared::FrontEnd(fronts[client]);
-        }
-        if client == fronts.len() {
-            return MemberDeclared::Logger;
-        }
-        MemberDeclared::Analyzer(self.lists.analyzers.as_slice()[client - fronts.len() - 1])
+        self.lists.member_count() as u32
     }
 
     /// The number of the buffer that the member with this client number calls, where it calls one alone.
@@ -54,10 +31,6 @@ impl<'a, 's, D: Database> Membership<'a, 's, D> {
         ensures { (declared : _) → slice_get (declared_members self.now.lists.now) client ≡ Some declared
             → result ≡ own_buffer declared }
     {
-        match self.declared(client) {
-            MemberDeclared::FrontEnd(front) => Some(front.buffer as usize),
-            MemberDeclared::Logger => None,
-            MemberDeclared::Analyzer(analyzer) => Some(analyzer.buffer as usize),
-        }
+        self.lists.member(client).own_buffer()
     }
 }

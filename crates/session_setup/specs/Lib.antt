@@ -1,3 +1,4 @@
 pub mod Setup
+pub mod DeclaredMembers
 pub mod Refusals
 pub mod SetupLines

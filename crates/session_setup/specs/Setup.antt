@@ -48,6 +48,15 @@ declared_by lists = record {
   analyzers = lists.analyzers;
 }
 
+-- these declarations, in lists for themselves
+abbrev pub lists_declared : Declared → DeclaredLists
+lists_declared declared = record {
+  buffers = declared.buffers;
+  fronts = declared.fronts;
+  channels = declared.channels;
+  analyzers = declared.analyzers;
+}
+
 -- a size that a buffer may have, in bytes
 abbrev pub is_buffer_size : ℕ → Bool
 is_buffer_size size = (size % 8 == 0) && (nat_le 256 size && nat_le size 268435456)

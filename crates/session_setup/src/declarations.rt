@@ -1,5 +1,5 @@
 ghost use Rattle.std.specs.Prelude.{◌≡◌, ◌++◌, ◌∷◌, [], length, codes, IfOk, OnOk, OnErr};
-ghost use Rattle.session_setup.specs.Setup.{AreSound, nothing_declared, system_name, total_size, has_buffer, is_declared_name, is_member_name};
+ghost use Rattle.session_setup.specs.Setup.{AreSound, lists_declared, nothing_declared, system_name, total_size, has_buffer, is_declared_name, is_member_name};
 ghost use Rattle.session_setup.specs.Refusals.{IsNameRead, name_refusal, ok_unless};
 ghost use Rattle.session_setup.specs.SetupLines.{buffers_with, is_taken_name, buffer_refusal, with_buffer, equip_refusal, with_front, is_limited, IsPatternRead, channel_refusal, with_channel, analyzer_refusal, with_analyzer, number_of_buffer, or_default, default_front, default_channel, opened_with_defaults};
 
@@ -139,10 +139,7 @@ impl Declarations {
 
     /// The lists, for themselves, each in its room.
     pub fn into_lists(self) -> DeclaredLists
-        ensures buffers { result.buffers ≡ self.buffers }
-        ensures fronts { result.fronts ≡ self.fronts }
-        ensures channels { result.channels ≡ self.channels }
-        ensures analyzers { result.analyzers ≡ self.analyzers }
+        ensures lists { result ≡ lists_declared self }
         ensures sound { AreSound self }
     {
         let Declarations {

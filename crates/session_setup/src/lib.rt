@@ -6,8 +6,10 @@ mod checks;
 mod declarations;
 mod declared;
 pub mod laws;
+mod member;
 mod refusals;
 
 pub use declarations::Declarations;
 pub use declared::{AnalyzerDeclared, BufferDeclared, DeclaredLists, FrontDeclared};
+pub use member::MemberDeclared;
 pub use refusals::SetupRefusal;

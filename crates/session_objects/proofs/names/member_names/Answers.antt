@@ -1,37 +1,31 @@
-use Rattle.std.proofs.Common.{◌≡◌, ◌∙◌, ℕ, List, [], ◌∷◌, ◌++◌, map, ap, sym, append_assoc}
-use Rattle.std.proofs.lemmas.Simd.{map-map}
-use Rattle.transitions.specs.declared.sequences.Role.TheVariants.{Analyzer, FrontEnd, Logger}
-use Rattle.mid_logger.specs.ChannelTurns.{logger_name}
+use Rattle.std.proofs.Common.{rules, ◌≡◌, ◌∙◌, ◌<◌, ◌+◌, ◌++◌, ◌∷◌, [], ℕ, List, length, map, take, ap, sym}
+use Rattle.std.proofs.Math.Seq.{take-length}
+use Rattle.std.proofs.lemmas.List.{map_push, take_more}
+use Rattle.std.proofs.lemmas.Option.{get_or_from_slice_get}
+use Rattle.transitions.specs.declared.sequences.Role.{Role}
 use Rattle.session_runs.specs.declared.opening.MemberName.{MemberName}
 use Rattle.session_runs.specs.Members.{member_in}
-use Rattle.session_setup.specs.declared.declared.AnalyzerDeclared.{AnalyzerDeclared}
-use Rattle.session_setup.specs.declared.declared.DeclaredLists.{DeclaredLists}
-use Rattle.session_setup.specs.declared.declared.FrontDeclared.{FrontDeclared}
-use Rattle.session_objects.specs.Names.{member_names}
+use Rattle.session_setup.specs.declared.member.MemberDeclared.{MemberDeclared}
+use Rattle.session_setup.specs.DeclaredMembers.{declared_members, name_of_member, role_of_member}
 use Rattle.session_objects.proofs.names.member_names.Goals as goal
 
-fronts_named : List FrontDeclared → List MemberName
-fronts_named fronts = map (λ (f : FrontDeclared). member_in FrontEnd f.name) fronts
+abbrev named : MemberDeclared → MemberName
+named m = member_in (role_of_member m) (name_of_member m)
 
-analyzers_named : List AnalyzerDeclared → List MemberName
-analyzers_named analyzers = map (λ (a : AnalyzerDeclared). member_in Analyzer a.name) analyzers
-
-named : (lists : DeclaredLists) → (fronts_named lists.fronts ++ member_in Logger logger_name ∷ []) ++ analyzers_named lists.analyzers ≡ member_names lists
-unfolding fronts_named analyzers_named
-named lists =
-    append_assoc (fronts_named lists.fronts) (member_in Logger logger_name ∷ []) (analyzers_named lists.analyzers)
-    ∙ ap (λ (l : List MemberName). l ++ member_in Logger logger_name ∷ analyzers_named lists.analyzers) (sym (map-map (member_in FrontEnd) (λ (f : FrontDeclared). f.name) lists.fronts))
-    ∙ ap (λ (l : List MemberName). map (member_in FrontEnd) (map (λ (f : FrontDeclared). f.name) lists.fronts) ++ member_in Logger logger_name ∷ l) (sym (map-map (member_in Analyzer) (λ (a : AnalyzerDeclared). a.name) lists.analyzers))
+pub loop-client-preserved : goal.loop-client-preserved
+loop-client-preserved c =
+    let ms : List MemberDeclared = declared_members c.args.lists.now in
+    let n : ℕ = c.loop-client.client in
+    let m : MemberDeclared = c.member-declared.result in
+    let within : n < length ms = search rules in
+    let more : take (n + 1) ms ≡ take n ms ++ m ∷ [] = take_more ms n m within ∙ ap (λ (z : MemberDeclared). take n ms ++ z ∷ []) (get_or_from_slice_get ms n m m c.member-declared.ensures) in
+    let is : member_in c.role.result c.name.result ≡ named m =
+    ap (λ (role : Role). member_in role c.name.result) c.role.ensures ∙ ap (member_in (role_of_member m)) c.name.ensures in
+    c.in_ok-push.ensures.items ∙ ap (λ (names : List MemberName). names ++ member_in c.role.result c.name.result ∷ []) c.loop-client.invariant
+    ∙ ap (λ (name : MemberName). map named (take n ms) ++ name ∷ []) is ∙ sym (map_push named (take n ms) m) ∙ ap (map named) (sym more)
 
 pub returns : goal.returns
-unfolding fronts_named analyzers_named
 returns c =
-    let lists = c.args.lists.now in
-    let first : c.push.new.self.items ≡ fronts_named lists.fronts ++ member_in Logger logger_name ∷ [] =
-    c.in_ok-push.ensures.items
-    ∙ ap (λ (l : List MemberName). l ++ member_in Logger c.logger_name.result ∷ []) (c.in_ok-names.ensures ∙ ap fronts_named c.as_slice.ensures)
-    ∙ ap (λ (n : List ℕ). fronts_named lists.fronts ++ member_in Logger n ∷ []) c.logger_name.ensures in
-    c.in_ok-push_analyzers.ensures
-    ∙ ap (λ (l : List MemberName). l ++ analyzers_named c.as_slice-2.result.now) first
-    ∙ ap (λ (as_ : List AnalyzerDeclared). (fronts_named lists.fronts ++ member_in Logger logger_name ∷ []) ++ analyzers_named as_) c.as_slice-2.ensures
-    ∙ named lists
+    let ms : List MemberDeclared = declared_members c.args.lists.now in
+    let all : c.loop-client.client ≡ length ms = search rules in
+    c.loop-client.invariant ∙ ap (λ (k : ℕ). map named (take k ms)) all ∙ ap (map named) (take-length ms)

@@ -8,7 +8,7 @@ use Rattle.analyzers.specs.declared.analyzer_run.AnalyzerRun.{AnalyzerRun}
 use Rattle.analyzers.specs.Analyzers.{AnalyzerState, IsWithinGot}
 use Rattle.daq_members.specs.OwnTurns.{are_calls_for}
 use Rattle.session_objects.specs.declared.objects.SessionBuffer.{SessionBuffer}
-use Rattle.session_objects.specs.declared.membership.MemberDeclared.TheVariants.{Analyzer as WantedAnalyzer}
+use Rattle.session_setup.specs.declared.member.MemberDeclared.TheVariants.{Analyzer as WantedAnalyzer}
 use Rattle.session_objects.specs.Kept.{out_to, engine_out, buffer_out}
 use Rattle.session_objects.specs.Members.{ring_window, event_room_of, idle_analyzer, new_analyzer}
 use Rattle.session_objects.proofs.OutLaws.{engine_one, database_same, own_next}

@@ -6,7 +6,7 @@ use Rattle.odb_watch.specs.DatabasePorts.{DatabaseAccess, own_watched}
 use Rattle.front_ends.specs.FrontIds.{IsFrontId}
 use Rattle.front_ends.specs.Fronts.{FrontState}
 use Rattle.frontend_kit.specs.declared.generator.Generator.{Generator}
-use Rattle.session_objects.specs.declared.membership.MemberDeclared.TheVariants.{FrontEnd as WantedFront}
+use Rattle.session_setup.specs.declared.member.MemberDeclared.TheVariants.{FrontEnd as WantedFront}
 use Rattle.session_objects.specs.Kept.{out_to, engine_out, database_out, buffer_out}
 use Rattle.session_objects.specs.Members.{new_front}
 use Rattle.session_objects.proofs.ListedLaws.{declared_front}

@@ -3,7 +3,7 @@ use Rattle.std.specs.Prelude.{Option}
 use Rattle.buffer_lock.specs.SharedPorts.{access_by}
 use Rattle.loggers.specs.declared.logged_run.LoggedRun.{LoggedRun}
 use Rattle.loggers.specs.Turning.{buffers_begun}
-use Rattle.session_objects.specs.declared.membership.MemberDeclared.TheVariants.{Logger as WantedLogger}
+use Rattle.session_setup.specs.declared.member.MemberDeclared.TheVariants.{Logger as WantedLogger}
 use Rattle.session_objects.specs.Kept.{out_to, ports_out, engine_out}
 use Rattle.session_objects.specs.Members.{ring_window, IsMadeLogger, IsNewLogger}
 use Rattle.mid_logger.specs.declared.channel_spec.ChannelSpec.{ChannelSpec}

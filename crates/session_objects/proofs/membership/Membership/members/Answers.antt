@@ -1,6 +1,6 @@
 use Rattle.std.proofs.Common.{rules, ◌≡◌, ◌∙◌, ℕ, length, ap, sym, subst}
 use Rattle.session_objects.specs.declared.passes.SessionPasses.{SessionPasses}
-use Rattle.session_objects.specs.DeclaredMembers.{logger_number, member_count}
+use Rattle.session_setup.specs.DeclaredMembers.{logger_number, member_count}
 use Rattle.session_objects.specs.Kept.{out_to, HasFreshBut}
 use Rattle.session_objects.specs.Members.{AreSeated, IsNewMemberAt, files_left}
 use Rattle.session_objects.proofs.SeatLaws.{none_seated, one_seated}

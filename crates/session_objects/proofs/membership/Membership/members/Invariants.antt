@@ -1,6 +1,6 @@
 -- So far the first members are made; their passes are out, and the run files with the logger, if it is among them.
 use Rattle.std.proofs.Common.{◌≡◌}
-use Rattle.session_objects.specs.DeclaredMembers.{logger_number}
+use Rattle.session_setup.specs.DeclaredMembers.{logger_number}
 use Rattle.session_objects.specs.Kept.{out_to, HasFreshBut}
 use Rattle.session_objects.specs.Members.{AreSeated, IsNewMemberAt, files_left}
 use Rattle.session_objects.proofs.membership.Membership.members.Given as goal

@@ -4,7 +4,7 @@ use Rattle.turn_lock.specs.declared.roster.Passes.{Passes}
 use Rattle.transition_lock.specs.SharedEngines.{engine_lock_of}
 use Rattle.odb_lock.specs.SharedOdbs.{odb_lock_of}
 use Rattle.session_objects.specs.Calls.{SessionCalls, told_of_engine, told_of_database}
-use Rattle.session_objects.specs.DeclaredMembers.{declared_members, member_count}
+use Rattle.session_setup.specs.DeclaredMembers.{declared_members, member_count}
 use Rattle.session_objects.specs.Kept.{out_to}
 use Rattle.session_objects.specs.Members.{accounts_of, AreCalledAt}
 use Rattle.session_objects.specs.Records.{HasCallsBut}

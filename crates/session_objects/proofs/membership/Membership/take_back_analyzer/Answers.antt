@@ -5,7 +5,7 @@ use Rattle.transition_lock.specs.declared.shared.SharedEngine.{SharedEngine}
 use Rattle.transition_lock.specs.SharedEngines.{engine_lock_of}
 use Rattle.session_objects.specs.Kept.{out_to}
 use Rattle.session_objects.specs.Members.{analyzer_account, IsOwnPort}
-use Rattle.session_objects.specs.declared.membership.MemberDeclared.TheVariants.{Analyzer as WantedAnalyzer}
+use Rattle.session_setup.specs.declared.member.MemberDeclared.TheVariants.{Analyzer as WantedAnalyzer}
 use Rattle.session_objects.proofs.ListedLaws.{analyzer_port}
 use Rattle.session_objects.proofs.OutLaws.{engine_one, database_same}
 use Rattle.session_objects.proofs.ReturnLaws.{engine_room, client_engine_back, ports_still}

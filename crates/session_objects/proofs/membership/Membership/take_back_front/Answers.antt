@@ -8,7 +8,7 @@ use Rattle.transition_lock.specs.SharedEngines.{engine_lock_of}
 use Rattle.odb_watch.specs.DatabasePorts.{DatabaseAccess}
 use Rattle.session_objects.specs.Kept.{out_to}
 use Rattle.session_objects.specs.Members.{front_account, IsOwnPort}
-use Rattle.session_objects.specs.declared.membership.MemberDeclared.TheVariants.{FrontEnd as WantedFront}
+use Rattle.session_setup.specs.declared.member.MemberDeclared.TheVariants.{FrontEnd as WantedFront}
 use Rattle.session_objects.proofs.ListedLaws.{front_port}
 use Rattle.session_objects.proofs.OutLaws.{engine_one, database_one}
 use Rattle.session_objects.proofs.ReturnLaws.{engine_room, database_room, client_engine_back, client_database_back, ports_still}

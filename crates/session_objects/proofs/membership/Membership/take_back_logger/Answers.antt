@@ -10,7 +10,7 @@ use Rattle.buffer_lock.specs.SharedPorts.{access_by}
 use Rattle.session_objects.specs.Calls.{Account, account_or_none}
 use Rattle.session_objects.specs.Kept.{out_to, ports_out}
 use Rattle.session_objects.specs.Members.{ring_window, logger_account, ArePortsTo}
-use Rattle.session_objects.specs.declared.membership.MemberDeclared.TheVariants.{Logger as WantedLogger}
+use Rattle.session_setup.specs.declared.member.MemberDeclared.TheVariants.{Logger as WantedLogger}
 use Rattle.session_objects.proofs.OutLaws.{engine_one, database_same, port_gone}
 use Rattle.session_objects.proofs.ReturnLaws.{calls_said, client_engine_back, engine_room, ports_still}
 use Rattle.session_objects.proofs.membership.Membership.take_back_logger.Goals as goal

@@ -3,7 +3,7 @@ use Rattle.std.specs.Prelude.{slice_get}
 use Rattle.std.proofs.lemmas.Option.{slice_get_within}
 use Rattle.turn_lock.specs.Passes.{number_of}
 use Rattle.buffer_lock.specs.SharedPorts.{access_by}
-use Rattle.session_objects.specs.DeclaredMembers.{declared_members}
+use Rattle.session_setup.specs.DeclaredMembers.{declared_members}
 use Rattle.session_objects.specs.Kept.{out_to, ports_out}
 use Rattle.session_objects.specs.Members.{ring_window}
 use Rattle.session_objects.specs.Rosters.{ChangesAt, PutsBack}

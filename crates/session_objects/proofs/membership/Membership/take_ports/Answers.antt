@@ -5,7 +5,7 @@ use Rattle.std.proofs.lemmas.Option.{get_or_from_slice_get}
 use Rattle.buffer_core.specs.Ports.{Access}
 use Rattle.buffer_lock.specs.SharedPorts.{access_by}
 use Rattle.session_objects.specs.declared.objects.SessionBuffer.{SessionBuffer}
-use Rattle.session_objects.specs.declared.membership.MemberDeclared.TheVariants.{Logger as WantedLogger}
+use Rattle.session_setup.specs.declared.member.MemberDeclared.TheVariants.{Logger as WantedLogger}
 use Rattle.session_objects.specs.Kept.{out_to, ports_out, buffer_out, HasFreshBut}
 use Rattle.session_objects.specs.Members.{ring_window, new_port, new_ports}
 use Rattle.session_objects.proofs.OutLaws.{port_gone, port_next}

@@ -1,6 +1,6 @@
 use Rattle.std.proofs.Common.{◌≡◌, ◌∙◌, subst, arith, List, ℕ, ◌+◌}
 use Rattle.session_setup.specs.declared.declared.BufferDeclared.{BufferDeclared}
-use Rattle.session_objects.specs.DeclaredMembers.{caller_count}
+use Rattle.session_setup.specs.DeclaredMembers.{caller_count}
 use Rattle.session_objects.specs.Objects.{AreBuffersOf}
 use Rattle.session_objects.proofs.ListedLaws.{declared_count}
 use Rattle.session_objects.proofs.objects.SessionObjects.open.Goals as goal

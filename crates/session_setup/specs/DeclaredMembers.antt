@@ -1,10 +1,13 @@
--- The members of a session as they were declared, by their client numbers, and which objects each of them calls.
+-- The members of a session as they were declared, by their client numbers: how each is registered, and which objects it calls.
 use Rattle.std.specs.Prelude.{ℕ, suc, ◌==◌, ◌++◌, ◌∷◌, Bool, true, false, List, map, length, Option, Some, None}
+use Rattle.transitions.specs.declared.sequences.Role.{Role}
+use Rattle.transitions.specs.declared.sequences.Role.TheVariants as roles
+use Rattle.mid_logger.specs.ChannelTurns.{logger_name}
 use Rattle.session_setup.specs.declared.declared.AnalyzerDeclared.{AnalyzerDeclared}
 use Rattle.session_setup.specs.declared.declared.DeclaredLists.{DeclaredLists}
 use Rattle.session_setup.specs.declared.declared.FrontDeclared.{FrontDeclared}
-use Rattle.session_objects.specs.declared.membership.MemberDeclared.{MemberDeclared}
-use Rattle.session_objects.specs.declared.membership.MemberDeclared.TheVariants.{FrontEnd, Logger, Analyzer}
+use Rattle.session_setup.specs.declared.member.MemberDeclared.{MemberDeclared}
+use Rattle.session_setup.specs.declared.member.MemberDeclared.TheVariants.{FrontEnd, Logger, Analyzer}
 
 -- the front-ends, the logger, and the analyzers
 abbrev pub declared_members : DeclaredLists → List MemberDeclared
@@ -21,6 +24,20 @@ logger_number lists = length lists.fronts
 -- how many callers each object of a session with these members has: the main thread, and each member
 abbrev pub caller_count : DeclaredLists → ℕ
 caller_count lists = suc (member_count lists)
+
+-- As what a member is registered.
+
+-- what it does
+abbrev pub role_of_member : MemberDeclared → Role
+role_of_member (FrontEnd front) = roles.FrontEnd
+role_of_member Logger = roles.Logger
+role_of_member (Analyzer analyzer) = roles.Analyzer
+
+-- its name, which is declared but for the logger's
+abbrev pub name_of_member : MemberDeclared → List ℕ
+name_of_member (FrontEnd front) = front.name
+name_of_member Logger = logger_name
+name_of_member (Analyzer analyzer) = analyzer.name
 
 -- Which objects a member calls, besides the engine, which each member asks.
 
