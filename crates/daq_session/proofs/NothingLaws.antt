@@ -13,7 +13,7 @@ use Rattle.odb_watch.specs.DatabasePorts.{DatabaseAccess}
 use Rattle.odb_lock.specs.SharedAccesses.{shared_access}
 use Rattle.console.specs.declared.refusals.Refusals.{Refusals}
 use Rattle.session_commands.specs.Stages.{first_stage}
-use Rattle.session_commands.specs.ScriptLines.{BreaksScriptLine, ClosesScript, DoesScriptLine, GivesUp}
+use Rattle.session_commands.specs.ScriptLines.{BreaksScriptLine, ClosesScript, DoesScriptLine, GivesUp, WithdrawsLine}
 use Rattle.console.specs.declared.endings.Ending.TheVariants.{Halted}
 use Rattle.console.specs.declared.halts.Halt.TheVariants.{NoMemory as no_memory}
 use Rattle.console.specs.Closing.{Finished}
@@ -38,12 +38,15 @@ abbrev none_refused : Refusals
 none_refused = record { count = 0; first = 0 }
 
 nothing_played : (files : FilesTold) (clock : AheadTold) (source : SourceTold) (told : Option (List ℕ))
-    → Finished DoesScriptLine BreaksScriptLine ClosesScript GivesUp (first_stage access files clock) (Halted no_memory) None source source told told (first_stage access files clock) none_refused
+    → Finished DoesScriptLine BreaksScriptLine WithdrawsLine ClosesScript GivesUp (first_stage access files clock) (Halted no_memory) None source source told told (first_stage access files clock) none_refused
 nothing_played files clock source told = record {
   lines = [];
   replies = [];
   between = first_stage access files clock;
   plays = refl;
+  told_lines = told;
+  noted = first_stage access files clock;
+  wrote_lines = inl (record { whole = appends_nothing told; stays = refl });
   cut = first_stage access files clock;
   is_cut = inl refl;
   behind = [];
@@ -52,8 +55,6 @@ nothing_played files clock source told = record {
   are_lines = λ text is. refl;
   given = record { came = []; gave = sym (append-nil source.gave); are = refl };
   numbered = refl;
-  told_lines = told;
-  wrote_lines = inl (appends_nothing told);
   wrote_behind = keeps_same told;
 }
 

@@ -18,13 +18,13 @@ use Rattle.odb_tree.specs.Noting.{Watched}
 use Rattle.odb_watch.specs.Steps.{LeadsDatabase, unwatched}
 use Rattle.odb_watch.specs.declared.entry.WatchEntry.{WatchEntry}
 use Rattle.odb_lock.specs.SharedOdbs.{first_database}
-use Rattle.session_setup.specs.Setup.{Declared}
+use Rattle.session_setup.specs.Setup.{Declared, lists_declared}
 use Rattle.session_setup.specs.declared.declared.BufferDeclared.{BufferDeclared}
 use Rattle.session_setup.specs.declared.declared.AnalyzerDeclared.{AnalyzerDeclared}
 use Rattle.session_setup.specs.declared.declared.DeclaredLists.{DeclaredLists}
 use Rattle.session_setup.specs.declared.declared.FrontDeclared.{FrontDeclared}
 use Rattle.session_runs.specs.declared.opening.MemberName.{MemberName}
-use Rattle.session_runs.specs.Members.{MembersCounted, registrations, reporter_count, sender_count}
+use Rattle.session_runs.specs.Members.{MembersCounted, members_named, registrations, reporter_count, sender_count}
 use Rattle.mid_logger.specs.ChannelTurns.{logger_name}
 use Rattle.loggers.specs.OtherFiles.{AreDeclared, specs_in}
 use Rattle.session_runs.specs.declared.records.RunRecord.{RunRecord}
@@ -46,8 +46,9 @@ use Rattle.session_laws.specs.EndedRecords.{CountsSo, IsInNoRecord, NamesSo, One
 use Rattle.session_commands.specs.Endings.{closing_calls}
 use Rattle.daq_session.specs.Played.{IsSessionRecord}
 use Rattle.daq_session.specs.Sessions.{KeepsSession, main_own}
-use Rattle.daq_session.specs.ToldRecords.{AreHistoriesOf, AreMainCalls, IsHistoryOf, lists_declared, session_told}
+use Rattle.daq_session.specs.ToldRecords.{AreHistoriesOf, AreMainCalls, IsHistoryOf, session_told}
 use Rattle.daq_session.specs.RunNumbers.{GivesNumber}
+use Rattle.daq_session.proofs.MembersLaws.{names_listed}
 use Rattle.daq_session.proofs.NumberLaws.{RunLaws, calls_give, session_spares}
 use Rattle.daq_session.proofs.ToldRuns.{run_tells, there}
 
@@ -133,9 +134,9 @@ module _ {D F : Type 0} {g : _} (read : F → FilesTold) (first_files : F) (fina
 
   same_clients : run_clients kept.last ≡ its_clients
   same_clients =
-      let named : kept.last.members ≡ member_names kept.lists = kept.fits.members ∙ names in
       let fronts = map (λ (f : FrontDeclared). f.name) kept.lists.fronts in
       let analyzers = map (λ (a : AnalyzerDeclared). a.name) kept.lists.analyzers in
+      let named : kept.last.members ≡ members_named fronts logger_name analyzers = kept.fits.members ∙ (names ∙ names_listed kept.lists) in
       let senders : sender_count kept.last.members ≡ length kept.lists.fronts =
       ap sender_count named ∙ (counted.senders fronts logger_name analyzers ∙ length-map kept.lists.fronts (λ (f : FrontDeclared). f.name)) in
       let reporters : reporter_count kept.last.members ≡ length kept.lists.analyzers =

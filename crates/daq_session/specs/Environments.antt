@@ -23,6 +23,7 @@ pub record OutsideTold (S O F E C : Type 0) : Type 0 where
   pub dumps : E → FilesTold
   pub clock : C → AheadTold
 
+-- What is told of the outside of a session, by what is told of each of its objects.
 abbrev pub outside_told : {S O F E C : Type 0} → (source : S → SourceTold) → (sink : O → SinkTold) → (files : F → FilesTold) →
     (dumps : E → FilesTold) → (clock : C → AheadTold) → OutsideTold S O F E C
 outside_told source sink files dumps clock = record {

@@ -21,7 +21,7 @@ use Rattle.session_runs.specs.KeptRuns.{RunsSeen}
 use Rattle.session_runs.specs.RunsFit.{MainOwn}
 use Rattle.console.specs.declared.refusals.Refusals.{Refusals}
 use Rattle.session_commands.specs.Stages.{SessionStage, first_stage}
-use Rattle.session_commands.specs.ScriptLines.{BreaksScriptLine, ClosesScript, DoesScriptLine, GivesUp}
+use Rattle.session_commands.specs.ScriptLines.{BreaksScriptLine, ClosesScript, DoesScriptLine, GivesUp, WithdrawsLine}
 use Rattle.console.specs.declared.endings.Ending.{Ending}
 use Rattle.console.specs.declared.halts.Halt.{Halt}
 use Rattle.console.specs.Closing.{EndCounts, Finished, ended_by}
@@ -98,7 +98,7 @@ KeptRunsAsked told first_files final run_files asked (Some r) keeps = RunsAsked 
 -- The lines of a script, from the main thread's first access to the database on, and what is behind them.
 pub record PlaysLines (access : DatabaseAccess) (before after : Environment) (ending : Ending) (closing : Option Halt)
     (refusals : Refusals) (final : SessionStage) : Type 0 where
-  pub finished : Finished DoesScriptLine BreaksScriptLine ClosesScript GivesUp
+  pub finished : Finished DoesScriptLine BreaksScriptLine WithdrawsLine ClosesScript GivesUp
       (first_stage access before.odb_files before.clock) ending closing before.source after.source before.sink.written
       after.sink.written final refusals
   pub counts : EndCounts ending closing before.source.faults after.source.faults before.sink.faults after.sink.faults

@@ -47,10 +47,9 @@ use Rattle.session_runs.specs.declared.records.RunRecord.{RunRecord}
 use Rattle.daq_members.specs.Members.{MemberTold}
 use Rattle.session_runs.specs.RunEntries.{dump_saved, start_sheet}
 use Rattle.session_runs.specs.RunsFit.{MainOwn, RecordsFit}
-use Rattle.session_setup.specs.Setup.{Declared}
+use Rattle.session_setup.specs.Setup.{Declared, lists_declared}
 use Rattle.session_setup.specs.declared.declared.AnalyzerDeclared.{AnalyzerDeclared}
 use Rattle.session_setup.specs.declared.declared.BufferDeclared.{BufferDeclared}
-use Rattle.session_setup.specs.declared.declared.DeclaredLists.{DeclaredLists}
 use Rattle.session_setup.specs.declared.declared.FrontDeclared.{FrontDeclared}
 use Rattle.session_objects.specs.declared.record.BufferRecord.{BufferRecord}
 use Rattle.session_objects.specs.declared.record.SessionRecord.{SessionRecord}
@@ -217,15 +216,6 @@ pub record RunTells (c : ClosedSession) (moments : (client : ℕ) → List ℕ) 
   pub reports : (place : ℕ) → (d : AnalyzerDeclared) → slice_get declared.analyzers place ≡ Some d →
       (tally : ReportTally) × (slice_get run.reports place ≡ Some tally)
       × IsCountedInRun (suc (length declared.fronts) + place) d buffers c.engine run.start tally
-
--- these declarations, in lists for themselves
-abbrev pub lists_declared : Declared → DeclaredLists
-lists_declared declared = record {
-  buffers = declared.buffers;
-  fronts = declared.fronts;
-  channels = declared.channels;
-  analyzers = declared.analyzers;
-}
 
 -- The session of a record as its laws see it: its database had the keys of runs; and its logger, with these channels, had the
 -- run files as they were at first and are now.

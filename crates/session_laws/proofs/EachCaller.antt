@@ -13,7 +13,7 @@ use Rattle.session_runs.specs.declared.opening.MemberName.{MemberName}
 use Rattle.session_runs.specs.Members.{registration, registrations}
 use Rattle.session_runs.specs.RunsFit.{SteersEngine}
 use Rattle.daq_members.specs.OwnTurns.{is_call_for, are_calls_for}
-use Rattle.session_laws.specs.ClosedSessions.{ClosedAnalyzer, ClosedFront, ClosedSession, analyzer_client, calls_on_buffer, engine_calls, last_caller, logger_caller, registered_members}
+use Rattle.session_laws.specs.ClosedSessions.{ClosedAnalyzer, ClosedFront, ClosedSession, analyzer_client, calls_on_buffer, engine_calls, last_caller, logger_caller}
 use Rattle.session_laws.specs.MembersAtEnd.{MembersAtEnd}
 
 -- Own calls.
@@ -96,13 +96,13 @@ registered_each P first (m ∷ ms) each = (each 0 first m (omega arith) refl, re
 
 -- what holds of the registrations, of what the main thread did behind them, and of each client's polls and answers for itself holds
 -- of each call
-pub each_call : (c : ClosedSession) (ends : MembersAtEnd c) (P : ℕ → EngineEntry → Type 0) → ((client : ℕ) (m : MemberName) → slice_get (registered_members c) client ≡ Some m → P main_caller (registration client m)) → ((e : EngineEntry) → SteersEngine e → P main_caller e)
+pub each_call : (c : ClosedSession) (ends : MembersAtEnd c) (P : ℕ → EngineEntry → Type 0) → ((client : ℕ) (m : MemberName) → slice_get c.registered client ≡ Some m → P main_caller (registration client m)) → ((e : EngineEntry) → SteersEngine e → P main_caller e)
     → ((client : ℕ) (e : EngineEntry) → is_call_for client e ≡ true → P (caller_of_client client) e) → AllByRecursion (λ (x : ℕ × EngineEntry). P x.0 x.1) c.engine
 each_call c ends P registered steered called = each_by P c.engine own
   where
     own : (by : ℕ) → AllByRecursion (P by) (engine_calls c by)
     own zero =
         subst (AllByRecursion (P main_caller)) (sym ends.main.calls)
-        (all_both (P main_caller) (registrations 0 (registered_members c)) ends.main.later (registered_each (P main_caller) 0 (registered_members c) (λ k client m is at. (let same : client ≡ k = omega arith in registered client m (subst (λ (n : ℕ). slice_get (registered_members c) n ≡ Some m) (sym same) at))))
+        (all_both (P main_caller) (registrations 0 c.registered) ends.main.later (registered_each (P main_caller) 0 c.registered (λ k client m is at. (let same : client ≡ k = omega arith in registered client m (subst (λ (n : ℕ). slice_get c.registered n ≡ Some m) (sym same) at))))
         (all_each SteersEngine (P main_caller) ends.main.later steered ends.main.steers))
     own (suc n) = subst (λ (by : ℕ). AllByRecursion (P by) (engine_calls c by)) (add-one n) (each_for n (P (caller_of_client n)) (called n) (engine_calls c (caller_of_client n)) (ends.speaks n))

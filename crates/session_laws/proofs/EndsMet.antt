@@ -2,7 +2,7 @@
 use Rattle.std.specs.Prelude.{◌≡◌, ℕ, zero, suc, ◌+◌, ◌<◌, ◌≤◌, true, false, List, [], ◌∷◌, ◌++◌, length, map, slice_get, Option, Some, None, refl}
 use Rattle.std.proofs.Common.{ap, sym, subst, ◌∙◌, arith, inl, inr, add-one, eq-eqb}
 use Rattle.std.proofs.lemmas.Bool.{cases_lt, false_from_ne_true, ne_eqb}
-use Rattle.std.proofs.lemmas.List.{length-map}
+use Rattle.std.proofs.lemmas.List.{length-map, map-append}
 use Rattle.std.proofs.lemmas.Option.{slice_get-map, slice_get_cases, slice_get_past, slice_get_within}
 use Rattle.std.proofs.lemmas.Simd.{map-map}
 use Rattle.std.specs.Option.{option_map}
@@ -30,15 +30,19 @@ use Rattle.daq_members.specs.Members.{MemberSeen, Logger, KeepsContract}
 use Rattle.session_objects.specs.declared.objects.SessionBuffer.{SessionBuffer}
 use Rattle.session_objects.specs.declared.record.BufferRecord.{BufferRecord}
 use Rattle.session_objects.specs.declared.record.SessionRecord.{SessionRecord}
-use Rattle.session_objects.specs.declared.membership.MemberDeclared.{MemberDeclared}
-use Rattle.session_objects.specs.declared.membership.MemberDeclared.TheVariants.{FrontEnd as WantedFront, Logger as WantedLogger, Analyzer as WantedAnalyzer}
-use Rattle.session_objects.specs.DeclaredMembers.{calls_buffer, calls_database, declared_members, logger_number, own_buffer}
+use Rattle.session_setup.specs.declared.member.MemberDeclared.{MemberDeclared}
+use Rattle.session_setup.specs.declared.member.MemberDeclared.TheVariants.{FrontEnd as WantedFront, Logger as WantedLogger, Analyzer as WantedAnalyzer}
+use Rattle.session_setup.specs.DeclaredMembers.{calls_buffer, calls_database, declared_members, logger_number, name_of_member, own_buffer, role_of_member}
+use Rattle.transitions.specs.declared.sequences.Role.TheVariants as roles
+use Rattle.mid_logger.specs.ChannelTurns.{logger_name}
+use Rattle.session_runs.specs.declared.opening.MemberName.{MemberName}
+use Rattle.session_runs.specs.Members.{MembersCounted, member_in, members_named, reporter_count}
 use Rattle.session_objects.specs.Calls.{Account, SessionCalls, account_at, account_or_none, told_of_engine, told_of_buffer, told_of_database, port_of_caller, HoldsParts}
-use Rattle.session_objects.proofs.ListedLaws.{account_there, at_front, at_last, declared_count, logger_declared, no_account, no_database, no_port}
+use Rattle.session_objects.proofs.ListedLaws.{account_there, at_front, at_last, declared_count, declared_logger, logger_declared, no_account, no_database, no_port}
 use Rattle.session_objects.specs.Members.{IsMemberOf, FrontIs, LoggerIs, AnalyzerIs, IsLoggerOf, account_of, members_told, session_calls}
 use Rattle.session_laws.specs.ClosedSessions.{ClosedAnalyzer, ClosedBuffer, ClosedFront, ClosedSession, analyzer_client, last_caller, logger_client, logger_caller, size_in, history_in, got_from_buffer, engine_calls, calls_on_buffer, calls_on_database}
 use Rattle.session_laws.specs.CountedFaults.{LoggerReasons, LoggerNames}
-use Rattle.session_laws.specs.MembersAtEnd.{AnalyzerAtEnd, FrontAtEnd, IsAccessTo, LoggerAtEnd, MembersAtEnd}
+use Rattle.session_laws.specs.MembersAtEnd.{AnalyzerAtEnd, FrontAtEnd, IsAccessTo, LoggerAtEnd, MembersAtEnd, NamesMembers}
 use Rattle.session_laws.specs.EndedSessions.{closed_analyzer, closed_buffer, closed_front, moments_among, moments_of, session_with, SessionEnded}
 use Rattle.session_laws.proofs.LoggerEnd.{GotAll}
 use Rattle.session_laws.proofs.RunTurns.{there_within}
@@ -293,6 +297,42 @@ module _ {D F : Type 0} {g : _} (read : F → FilesTold) (lists : DeclaredLists)
     others = λ none. rw turns at (logger_keeps.seated.others none);
   }
 
+  -- How the members are registered.
+
+  abbrev registered_as : MemberDeclared → MemberName
+  registered_as d = member_in (role_of_member d) (name_of_member d)
+
+  named_at : (client : ℕ) (d : MemberDeclared) → slice_get wanted client ≡ Some d → slice_get closed.registered client ≡ Some (registered_as d)
+  named_at client d at = slice_get-map registered_as wanted client ∙ ap (option_map registered_as) at
+
+  logger_declared_so : (d : MemberDeclared) → role_of_member d ≡ roles.Logger → d ≡ WantedLogger
+  logger_declared_so WantedLogger is = refl
+  logger_declared_so d is = absurd (cc (is))
+
+  named : MembersCounted → NamesMembers closed
+  named counted = record {
+    fronts = λ client f at.
+        let d = mapped closed_front lists.fronts client f at in
+        named_at client (WantedFront d.0) (at_front WantedFront WantedLogger WantedAnalyzer lists.fronts lists.analyzers client d.0 d.1)
+        ∙ ap (λ (x : ClosedFront). Some (member_in roles.FrontEnd x.name)) d.2;
+    logger = named_at (logger_client closed) WantedLogger logger_there;
+    analyzers = λ place a at.
+        let d = mapped closed_analyzer lists.analyzers place a at in
+        let client : ℕ = analyzer_client closed place in
+        named_at client (WantedAnalyzer d.0) (at_last WantedFront WantedLogger WantedAnalyzer lists.fronts lists.analyzers client place d.0 (omega (arith, number)) d.1)
+        ∙ ap (λ (x : ClosedAnalyzer). Some (member_in roles.Analyzer x.name)) d.2;
+    one_logger = λ client m at is.
+        let d = mapped registered_as wanted client m at in
+        let logger : d.0 ≡ WantedLogger = logger_declared_so d.0 (ap (λ (x : MemberName). x.role) d.2 ∙ is) in
+        declared_logger lists client (d.1 ∙ ap Some logger) ∙ sym number;
+    reporters =
+        let fronts = map (λ (f : FrontDeclared). f.name) lists.fronts in
+        let analyzers = map (λ (a : AnalyzerDeclared). a.name) lists.analyzers in
+        let same : closed.registered ≡ members_named fronts logger_name analyzers = simp (map-append, map-map) in
+        let all = counted.reporters fronts logger_name analyzers in
+        ap reporter_count same ∙ all ∙ length-map lists.analyzers (λ (a : AnalyzerDeclared). a.name) ∙ sym many_analyzers;
+  }
+
   -- All together.
 
   front_at_end : (client : ℕ) (f : ClosedFront) → slice_get closed.fronts client ≡ Some f → FrontAtEnd closed client f (moments_among ended.members client)
@@ -318,9 +358,9 @@ module _ {D F : Type 0} {g : _} (read : F → FilesTold) (lists : DeclaredLists)
     pub reasons : LoggerReasons closed ends (read logger.first) (read logger.files)
     pub names : LoggerNames closed ends (read logger.first) (read logger.files)
 
-  pub ends_met : GotAll → EndsMet
+  pub ends_met : GotAll → MembersCounted → EndsMet
   unfolding logger_ends
-  ends_met all = record {
+  ends_met all counted = record {
     ends = record {
       buffers = λ n b at. (let c = mapped closed_buffer r.buffers n b at in subst (λ (x : ClosedBuffer). IsLegal (opening x.size) x.history) c.2 (at_buffer n c.0 c.1).legal);
       engine = rw ended.opening at ended.histories.engine;
@@ -331,9 +371,10 @@ module _ {D F : Type 0} {g : _} (read : F → FilesTold) (lists : DeclaredLists)
       logger = logger_ends;
       analyzers = analyzer_at_end all;
       few_analyzers = omega (arith, ended.few_analyzers, many_analyzers);
+      named = named counted;
       main = record {
         later = ended.later;
-        calls = engine_by_main ∙ (ended.begins ∙ simp map-map);
+        calls = engine_by_main ∙ ended.begins;
         steers = ended.steers;
         buffers = λ buffer. none_by buffer 0 main_caller refl refl;
       };

@@ -17,7 +17,7 @@ use Rattle.member_model.specs.TurnCalls.{member_turns}
 use Rattle.analyzers.specs.declared.analyzer_run.EventRequest.{EventRequest}
 use Rattle.analyzers.specs.AnalyzerKept.{KeepsAnalyzer}
 use Rattle.daq_members.specs.AnalyzerTaken.{MemberAnalyzersKeep}
-use Rattle.history_laws.specs.CallerLaws.{PortTells}
+use Rattle.history_laws.specs.CallerLaws.{AttachesGiveOnce, PortTells}
 use Rattle.transitions.specs.declared.client.Registered.{Registered}
 use Rattle.member_model.specs.RunEngines.{EngineEntry}
 use Rattle.history_laws.specs.BegunTurns.{IsAlone, OneWantsDump, OneHasNumber}
@@ -28,7 +28,7 @@ use Rattle.session_runs.specs.RunsFit.{SteersEngine}
 use Rattle.session_laws.specs.ClosedSessions.{ClosedAnalyzer, ClosedFront, ClosedSession, analyzer_client, logger_client, logger_caller, size_of_buffer, history_of_buffer, engine_calls, calls_on_buffer, calls_on_database, got_from_buffer, session_analyzer, session_front, session_of}
 use Rattle.session_laws.specs.MembersAtEnd.{AnalyzerAtEnd, FrontAtEnd, MembersAtEnd}
 use Rattle.session_laws.proofs.EachCaller.{by_caller, each_call}
-use Rattle.session_laws.proofs.Registrations.{analyzer_at, front_at, IsOfLogger, logger_alone, alone_wants, alone_numbered}
+use Rattle.session_laws.proofs.Registrations.{IsOfLogger, logger_alone, alone_wants, alone_numbered}
 use Rattle.session_laws.proofs.MainFirst.{logger_called, registered}
 use Rattle.session_laws.proofs.GotSent.{got_sent, legal_buffer}
 use Rattle.session_laws.proofs.LoggerEnd.{GotAll, logger_keeps}
@@ -62,7 +62,7 @@ alone_steered P n by e is = tt
 one_logger : (P : Registered → Type 0) → IsOfLogger P → (c : ClosedSession) → MembersAtEnd c → AllByRecursion (IsAlone P (logger_client c)) c.engine
 one_logger P of c ends =
     let n : ℕ = logger_client c in
-    each_call c ends (λ by e. IsAlone P n (by, e)) (logger_alone c P of) (alone_steered P n main_caller) (λ client. alone_call P n (caller_of_client client) client)
+    each_call c ends (λ by e. IsAlone P n (by, e)) (logger_alone c ends.named P of) (alone_steered P n main_caller) (λ client. alone_call P n (caller_of_client client) client)
 
 one_dump : (c : ClosedSession) → MembersAtEnd c → OneWantsDump (logger_client c) c.engine
 one_dump c ends = one_logger (λ (k : Registered). k.wants_dump ≡ true) alone_wants c ends
@@ -102,7 +102,7 @@ member_callers c ends buffer =
 
 front_registered : (c : ClosedSession) → MembersAtEnd c → (moments : ℕ → List ℕ) (client : ℕ) (f : ClosedFront) → slice_get c.fronts client ≡ Some f → IsRegistered (session_of c moments) client Start × IsRegistered (session_of c moments) client Stop
 front_registered c ends moments client f at =
-    let there = front_at c client f at in
+    let there = ends.named.fronts client f at in
     (registered c ends client (member_in FrontEnd f.name) there Start 500 refl moments, registered c ends client (member_in FrontEnd f.name) there Stop 500 refl moments)
 
 logger_registered : (c : ClosedSession) → MembersAtEnd c → (moments : ℕ → List ℕ) → IsRegistered (session_of c moments) (logger_client c) Start × IsRegistered (session_of c moments) (logger_client c) Stop
@@ -112,7 +112,7 @@ analyzer_registered : (c : ClosedSession) → MembersAtEnd c → (moments : ℕ 
     → IsRegistered (session_of c moments) (analyzer_client c place) Start × IsRegistered (session_of c moments) (analyzer_client c place) Stop
 analyzer_registered c ends moments place a at =
     let client : ℕ = analyzer_client c place in
-    let there = analyzer_at c place a at in
+    let there = ends.named.analyzers place a at in
     (registered c ends client (member_in Analyzer a.name) there Start 300 refl moments, registered c ends client (member_in Analyzer a.name) there Stop 900 refl moments)
 
 -- All together.
@@ -139,8 +139,8 @@ analyzer_keeps law c client a ends =
     subst (λ (w : EventRequest). KeepsAnalyzer w (calls_on_buffer c (caller_of_client client) a.buffer) (got_from_buffer c (caller_of_client client) a.buffer) (member_turns client (engine_calls c (caller_of_client client)))) ends.wanted
     (law client ends.analyzer (engine_calls c (caller_of_client client)) (calls_on_buffer c (caller_of_client client) a.buffer) (got_from_buffer c (caller_of_client client) a.buffer) ends.stands)
 
-pub members_keep : PortTells → GotAll → StandingLoggerKeeps → FrontKeeps → MemberAnalyzersKeep → (c : ClosedSession) → (ends : MembersAtEnd c) → MembersKeep (session_of c ends.moments)
-members_keep tells all stands keeps reads c ends =
+pub members_keep : PortTells → GotAll → AttachesGiveOnce → StandingLoggerKeeps → FrontKeeps → MemberAnalyzersKeep → (c : ClosedSession) → (ends : MembersAtEnd c) → MembersKeep (session_of c ends.moments)
+members_keep tells all once stands keeps reads c ends =
     let moments : ℕ → List ℕ = ends.moments in
     record {
       buffers_legal = legal_buffer c ends;
@@ -150,7 +150,7 @@ members_keep tells all stands keeps reads c ends =
       fronts_keep = each_front c moments (λ f. _) (λ client f at. (front_kept keeps c client f (moments client) (ends.fronts client f at)).keeps);
       fronts_moments = each_front c moments (λ f. _) (λ client f at. (front_kept keeps c client f (moments client) (ends.fronts client f at)).kept);
       fronts_set = each_front c moments (λ f. _) (λ client f at. (front_kept keeps c client f (moments client) (ends.fronts client f at)).told);
-      logger_keeps = logger_keeps stands all c ends;
+      logger_keeps = logger_keeps stands all once c ends;
       logger_got = λ buffer. got_sent tells _ (logger_caller c) (history_of_buffer c buffer) (legal_buffer c ends buffer);
       analyzers_keep = each_analyzer c moments (λ a. _) (λ place a at. analyzer_keeps reads c (analyzer_client c place) a (ends.analyzers place a at));
       analyzers_got = each_analyzer c moments (λ a. _) (λ place a at. (

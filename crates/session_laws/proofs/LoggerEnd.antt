@@ -1,4 +1,5 @@
--- The logger of a closed session keeps its contract over the histories: nobody else detaches a client of it.
+-- The logger of a closed session keeps its contract over the histories: nobody else detaches a client of it, so no port gave it one
+-- that it has.
 use Rattle.std.specs.Prelude.{◌≡◌, ◌≢◌, ℕ, zero, suc, false, List, [], ◌∷◌, length, slice_get, Option, Some, None, refl}
 use Rattle.std.specs.List.{AllByRecursion}
 use Rattle.std.proofs.Common.{ap, sym, subst, ◌∙◌, arith}
@@ -13,13 +14,15 @@ use Rattle.turn_lock.specs.History.{IsPartOf}
 use Rattle.member_model.specs.SentCalls.{IsSendInRun, EachCall}
 use Rattle.member_model.specs.TurnCalls.{member_turns}
 use Rattle.member_model.specs.LoggerKept.{LoggerChannel, LoggerPort, KeepsLogger}
-use Rattle.loggers.specs.NewLoggers.{NoneTakenBack}
+use Rattle.history_laws.specs.CallerLaws.{AttachesGiveOnce}
+use Rattle.mid_logger.specs.Channels.{GivesEachOnce}
+use Rattle.loggers.specs.NewLoggers.{GiveEachOnce}
 use Rattle.loggers.specs.LoggerStands.{logger_channels, logger_port, logger_ports, StandingLoggerKeeps}
 use Rattle.analyzers.specs.AnalyzerKept.{IsAnalyzerCall}
 use Rattle.session_laws.specs.ClosedSessions.{ClosedAnalyzer, ClosedBuffer, ClosedFront, ClosedSession, analyzer_client, logger_client, logger_caller, size_in, history_in, history_of_buffer, engine_calls, calls_on_buffer, got_from_buffer}
 use Rattle.session_laws.specs.MembersAtEnd.{AnalyzerAtEnd, FrontAtEnd, IsAccessTo, MembersAtEnd}
 use Rattle.session_laws.proofs.EachCaller.{each_by, none_all, by_caller, at_own}
-use Rattle.session_laws.proofs.NoneTaken.{OthersKeep, none_taken_first}
+use Rattle.session_laws.proofs.NoneTaken.{OthersKeep, none_taken}
 
 -- What a port gave, whole: the law of the lock.
 abbrev pub GotAll : Type 0
@@ -87,15 +90,17 @@ both_at (x ∷ xs) [] k same = absurd (omega arith)
 both_at (x ∷ xs) (y ∷ ys) zero same = Both x y refl refl
 both_at (x ∷ xs) (y ∷ ys) (suc k) same = next_both x xs y ys k (both_at xs ys k (omega arith))
 
-not_taken_at : (c : ClosedSession) (ends : MembersAtEnd c) (buffer : ℕ) (a : Access) → slice_get ends.logger.ports buffer ≡ Some a → BothAt ends.logger.ports c.buffers buffer → a.taken_back ≡ []
-not_taken_at c ends buffer a at (Both x b here there) =
-    let access : IsAccessTo (logger_caller c) b a = ends.logger.access buffer a b at there in
-    let keep : OthersKeep (logger_caller c) b.history = subst (λ (o : Option ClosedBuffer). OthersKeep (logger_caller c) (history_in o)) there (others_keep c ends buffer) in
-    access.known ∙ none_taken_first (logger_caller c) access.seen b.history access.part.begins keep
-not_taken_at c ends buffer a at (Neither none nor) = absurd (cc (at, none))
+given_at : AttachesGiveOnce → (c : ClosedSession) (ends : MembersAtEnd c) (buffer : ℕ) (a : Access) → slice_get ends.logger.ports buffer ≡ Some a → BothAt ends.logger.ports c.buffers buffer → GivesEachOnce a.own
+given_at law c ends buffer a at (Both x b here there) =
+    let by : ℕ = logger_caller c in
+    let access : IsAccessTo by b a = ends.logger.access buffer a b at there in
+    let keep : OthersKeep by b.history = subst (λ (o : Option ClosedBuffer). OthersKeep by (history_in o)) there (others_keep c ends buffer) in
+    let once : GivesEachOnce (entries_by by b.history) = law b.size b.history by (ends.buffers buffer b there) (none_taken by 0 b.history keep) in
+    subst (λ (own : List BufferEntry). GivesEachOnce own) (access.part.own ∙ sym access.own) once
+given_at law c ends buffer a at (Neither none nor) = absurd (cc (at, none))
 
-pub none_taken_back : (c : ClosedSession) (ends : MembersAtEnd c) → NoneTakenBack ends.logger.ports
-none_taken_back c ends buffer a at = not_taken_at c ends buffer a at (both_at ends.logger.ports c.buffers buffer ends.logger.many)
+pub given_once : AttachesGiveOnce → (c : ClosedSession) (ends : MembersAtEnd c) → GiveEachOnce ends.logger.ports
+given_once law c ends buffer a at = given_at law c ends buffer a at (both_at ends.logger.ports c.buffers buffer ends.logger.many)
 
 -- What the ports told is what the histories tell.
 
@@ -116,14 +121,14 @@ port_at all c ends buffer (Both a b at there) =
     ∙ (port_so all (logger_caller c) b a (ends.logger.access buffer a b at there) ∙ sym (ap (port_to (logger_caller c)) there))
 port_at all c ends buffer (Neither none nor) = ap logger_port none ∙ sym (ap (port_to (logger_caller c)) nor)
 
-pub logger_keeps : StandingLoggerKeeps → GotAll → (c : ClosedSession) → MembersAtEnd c
+pub logger_keeps : StandingLoggerKeeps → GotAll → AttachesGiveOnce → (c : ClosedSession) → MembersAtEnd c
     → KeepsLogger (logger_channels (λ number. 0) c.slots) (λ buffer. record { own = calls_on_buffer c (logger_caller c) buffer; got = got_from_buffer c (logger_caller c) buffer })
     (member_turns (logger_client c) (engine_calls c (logger_caller c))) c.files
 unfolding port_to
-logger_keeps law all c ends =
+logger_keeps law all once c ends =
     let channels : List LoggerChannel = logger_channels (λ number. 0) c.slots in
     let turns = member_turns (logger_client c) (engine_calls c (logger_caller c)) in
-    let stands = ends.logger.stands (none_taken_back c ends) in
+    let stands = ends.logger.stands (given_once once c ends) in
     let kept : KeepsLogger channels (logger_ports ends.logger.ports) turns c.files = law ends.logger.run ends.logger.dumps c.slots ends.logger.ports turns c.files (λ number. 0) stands in
     let same : logger_ports ends.logger.ports ≡ (λ buffer. record { own = calls_on_buffer c (logger_caller c) buffer; got = got_from_buffer c (logger_caller c) buffer }) =
     (λ i buffer. port_at all c ends buffer (both_at ends.logger.ports c.buffers buffer ends.logger.many) i) in

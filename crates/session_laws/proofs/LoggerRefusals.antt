@@ -15,7 +15,7 @@ use Rattle.composition.proofs.SessionTurns.{speaks}
 use Rattle.session_laws.specs.ClosedSessions.{ClosedBuffer, ClosedSession, logger_client, logger_caller, history_in, engine_calls, calls_on_buffer}
 use Rattle.session_laws.specs.MembersAtEnd.{IsAccessTo, MembersAtEnd}
 use Rattle.session_laws.proofs.KeptTogether.{names_own}
-use Rattle.session_laws.proofs.LoggerEnd.{BothAt, Both, Neither, none_taken_back}
+use Rattle.session_laws.proofs.LoggerEnd.{BothAt, Both, Neither, given_once}
 use Rattle.session_laws.proofs.MainFirst.{logger_called}
 use Rattle.session_laws.proofs.RunTurns.{TurnLaws}
 
@@ -44,7 +44,7 @@ never_unready laws over c ends turn has starts answered =
     let turns : List MemberTurn = member_turns n (engine_calls c (logger_caller c)) in
     let are : AreEngineTurns turns = laws.facts.gives (logger_caller c) n c.engine ends.engine (speaks n c.engine (names_own c ends)) in
     let last : StartsComeLast turns = over (logger_caller c) n c.engine ends.engine (speaks n c.engine (names_own c ends)) (always_called c ends) in
-    let unready : AreUnreadyInRuns turns = (ends.logger.stands (none_taken_back c ends)).holds.unready are in
+    let unready : AreUnreadyInRuns turns = (ends.logger.stands (given_once laws.once c ends)).holds.unready are in
     never_in_run turns turn unready last has starts answered
 
 -- Buffers.

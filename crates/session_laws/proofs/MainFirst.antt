@@ -14,10 +14,10 @@ use Rattle.session_runs.specs.declared.opening.MemberName.{MemberName}
 use Rattle.session_runs.specs.Members.{gets_dumps, gets_reports, member_in, registration, registrations}
 use Rattle.mid_logger.specs.ChannelTurns.{logger_name}
 use Rattle.composition.specs.Sessions.{IsRegistered}
-use Rattle.session_laws.specs.ClosedSessions.{ClosedSession, logger_client, registered_members, session_of}
+use Rattle.session_laws.specs.ClosedSessions.{ClosedSession, logger_client, session_of}
 use Rattle.session_laws.specs.MembersAtEnd.{MembersAtEnd}
 use Rattle.session_laws.proofs.EachCaller.{own_around}
-use Rattle.session_laws.proofs.Registrations.{Among, logger_at, registered_at, behind_all}
+use Rattle.session_laws.proofs.Registrations.{Among, registered_at, behind_all}
 
 pub may_call : (s : EngineState) (xs : EngineHistory) (x : ℕ × EngineEntry) (ys : EngineHistory) → IsLegalEngine s (xs ++ x ∷ ys) → IsEngineCaller x.0 x.1
 may_call s [] x ys legal = legal.0
@@ -26,10 +26,10 @@ may_call s (y ∷ xs) x ys legal = may_call (engine_after s y.1) xs x ys legal.2
 no_begin : (t : Transition) (sheet : Sheet) (start : ℕ) (k : ℕ) (m : MemberName) → Begin t sheet (Ok start) ≡ registration k m → ⊥
 no_begin t sheet start k m is = absurd (cc (is))
 
-pub registered : (c : ClosedSession) → MembersAtEnd c → (client : ℕ) (m : MemberName) → slice_get (registered_members c) client ≡ Some m
+pub registered : (c : ClosedSession) → MembersAtEnd c → (client : ℕ) (m : MemberName) → slice_get c.registered client ≡ Some m
     → (transition : Transition) (sequence : ℕ) → sequence_for (sequences_of m.role) transition ≡ Some sequence → (moments : ℕ → List ℕ) → IsRegistered (session_of c moments) client transition
 registered c ends client m at transition sequence called moments earlier later caller begun sheet start whole =
-    let members : List MemberName = registered_members c in
+    let members : List MemberName = c.registered in
     let begin : EngineEntry = Begin begun sheet (Ok start) in
     let may : IsEngineCaller caller (Begin begun sheet (Ok start)) = may_call engine_opening earlier (caller, Begin begun sheet (Ok start)) later (subst (IsLegalEngine engine_opening) whole ends.engine) in
     let by_main : c.engine ≡ earlier ++ (main_caller, begin) ∷ later = whole ∙ ap (λ (n : ℕ). earlier ++ (n, Begin begun sheet (Ok start)) ∷ later) may.0 in
@@ -55,4 +55,4 @@ registered c ends client m at transition sequence called moments earlier later c
 
 -- so was the logger
 pub logger_called : (c : ClosedSession) → MembersAtEnd c → (transition : Transition) (sequence : ℕ) → sequence_for (sequences_of Logger) transition ≡ Some sequence → (moments : ℕ → List ℕ) → IsRegistered (session_of c moments) (logger_client c) transition
-logger_called c ends transition sequence called moments = registered c ends (logger_client c) (member_in Logger logger_name) (logger_at c) transition sequence called moments
+logger_called c ends transition sequence called moments = registered c ends (logger_client c) (member_in Logger logger_name) ends.named.logger transition sequence called moments

@@ -21,6 +21,7 @@ use Rattle.mid_logger.specs.declared.channel.Channel.{Channel}
 use Rattle.mid_logger.specs.declared.channel_spec.ChannelSpec.{ChannelSpec}
 use Rattle.loggers.specs.OtherFiles.{specs_in, IsRunName, KeepsOtherFiles}
 use Rattle.history_laws.specs.BegunTurns.{WasBegun}
+use Rattle.history_laws.specs.CallerLaws.{AttachesGiveOnce}
 use Rattle.history_laws.specs.EngineLaws.{TurnsWereBegun}
 use Rattle.composition.proofs.SessionTurns.{speaks}
 use Rattle.daq_members.specs.StartedRuns.{runs_with, started_runs}
@@ -30,7 +31,7 @@ use Rattle.session_laws.specs.OtherNames.{BeginsStartOf}
 use Rattle.session_laws.specs.EndLaws.{OtherNamesStay}
 use Rattle.session_laws.proofs.EachCaller.{own_around}
 use Rattle.session_laws.proofs.MainFirst.{may_call}
-use Rattle.session_laws.proofs.LoggerEnd.{none_taken_back}
+use Rattle.session_laws.proofs.LoggerEnd.{given_once}
 use Rattle.session_laws.proofs.KeptTogether.{names_own}
 
 -- A run that the turns start is that of a start turn among them.
@@ -131,10 +132,10 @@ has_spec [] n spec at = absurd (cc (at))
 has_spec (o ∷ os) zero spec at = (let found = spec_of o spec at in record { channel = found.0; at = found.1; is = found.2 })
 has_spec (o ∷ os) (suc n) spec at = (let found : HasSpec os n spec = has_spec os n spec at in record { channel = found.channel; at = found.at; is = found.is })
 
-pub names_stay : TurnsWereBegun → OtherNamesStay
-names_stay law c ends name other =
+pub names_stay : TurnsWereBegun → AttachesGiveOnce → OtherNamesStay
+names_stay law once c ends name other =
     let turns : List MemberTurn = member_turns (logger_client c) (engine_calls c (logger_caller c)) in
-    let kept : KeepsOtherFiles (specs_in c.slots) (started_runs turns) c.first_files c.files = ends.logger.others (none_taken_back c ends) in
+    let kept : KeepsOtherFiles (specs_in c.slots) (started_runs turns) c.first_files c.files = ends.logger.others (given_once once c ends) in
     let never : IsRunName (specs_in c.slots) (started_runs turns) name → ⊥ = λ is.
     (let channel : HasSpec c.slots is.number is.spec = has_spec c.slots is.number is.spec is.there in
     other is.run is.number is.sub channel.channel (starts_run law c ends is.run (start_turn turns is.run is.among)) channel.at is.few

@@ -36,7 +36,7 @@ use Rattle.session_laws.proofs.EachCaller.{at_own, by_caller}
 use Rattle.session_laws.proofs.MembersListed.{front_listed, numbered_at}
 use Rattle.session_laws.proofs.GotSent.{legal_buffer}
 use Rattle.session_laws.proofs.KeptTogether.{names_own}
-use Rattle.session_laws.proofs.LoggerEnd.{BothAt, Both, Neither, both_at, none_taken_back}
+use Rattle.session_laws.proofs.LoggerEnd.{BothAt, Both, Neither, both_at, given_once}
 use Rattle.session_laws.proofs.LoggerRefusals.{always_called, own_by}
 use Rattle.session_laws.proofs.RunTurns.{TurnLaws, are_turns}
 
@@ -143,7 +143,7 @@ module _ (laws : TurnLaws) (asking : AskLaws) (c : ClosedSession) (ends : Member
   turns = member_turns (logger_client c) (engine_calls c (logger_caller c))
 
   stands : LoggerStands ends.logger.run ends.logger.dumps c.slots ends.logger.ports turns c.files
-  stands = ends.logger.stands (none_taken_back c ends)
+  stands = ends.logger.stands (given_once laws.once c ends)
 
   abbrev attached : (buffer by : ℕ) → ℕ
   attached buffer by = attaches_made (calls_on_buffer c by buffer)

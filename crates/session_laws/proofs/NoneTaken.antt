@@ -1,8 +1,7 @@
 -- Where no other caller detaches a client, no client of a caller is known to be detached by another.
 use Rattle.std.specs.Prelude.{◌≡◌, ◌≢◌, ℕ, suc, ◌==◌, not, Bool, true, false, if◌then◌else◌, List, [], ◌∷◌, ◌++◌, Ok, refl}
-use mathlib.Core.List.{IsPrefix}
 use Rattle.std.specs.List.{AllByRecursion}
-use Rattle.std.proofs.Common.{ap, sym, subst, ◌∙◌, inl, inr}
+use Rattle.std.proofs.Common.{ap, ◌∙◌, inl, inr}
 use Rattle.std.proofs.lemmas.Bool.Decides.{eqb_tells}
 use Rattle.buffer_core.specs.declared.entry.BufferEntry.{BufferEntry}
 use Rattle.buffer_core.specs.declared.entry.BufferEntry.TheVariants.{Attach}
@@ -13,10 +12,6 @@ use Rattle.buffer_core.specs.CallersView.{detaches, is_taken_back, taken_back_of
 -- each call of another caller than this one detaches no client
 abbrev pub OthersKeep : (by : ℕ) → History → Type 0
 OthersKeep by h = AllByRecursion (λ (x : ℕ × BufferEntry). x.0 ≢ by → (client : ℕ) → detaches x.1 client ≡ false) h
-
-pub first_keep : (by : ℕ) (xs ys : History) → OthersKeep by (xs ++ ys) → OthersKeep by xs
-first_keep by [] ys keep = tt
-first_keep by (x ∷ xs) ys keep = (keep.0, first_keep by xs ys keep.1)
 
 by_itself : (by : ℕ) (x : ℕ × BufferEntry) (client : ℕ) → (x.0 ≢ by → (n : ℕ) → detaches x.1 n ≡ false) → detaches x.1 client ≡ true → not (x.0 == by) ≡ false
 by_itself by x client keep does = elim (eqb_tells x.0 by) as (λ w. not (x.0 == by) ≡ false) [
@@ -39,7 +34,3 @@ none_taken by call [] keep = refl
 none_taken by call (x ∷ h) keep =
     split (x.0 == by) (λ b. (if b then taken_back_of by call x.1 h ++ taken_back_in by (suc call) h else taken_back_in by call h) ≡ [])
     (λ is. ap (λ (l : List ℕ). l ++ taken_back_in by (suc call) h) (none_of by call x.1 h keep.1) ∙ none_taken by (suc call) h keep.1) (λ is. none_taken by call h keep.1)
-
--- in a beginning of the history too
-pub none_taken_first : (by : ℕ) (seen h : History) → IsPrefix seen h → OthersKeep by h → taken_back_in by 0 seen ≡ []
-none_taken_first by seen h begins keep = none_taken by 0 seen (first_keep by seen begins.0 (subst (OthersKeep by) (sym begins.1) keep))

@@ -30,6 +30,7 @@ use Rattle.mid_logger.specs.declared.channel.Channel.{Channel}
 use Rattle.loggers.specs.ToldCounts.{faults_of_state, faults_of_refusal, faults_of_answer, clashes_of_answer, count_in_answer, faults_told, clashes_told, broken_off}
 use Rattle.loggers.proofs.ManyRose.{has_counts}
 use Rattle.history_laws.specs.BegunTurns.{HasTransition, IsRefusedTurn, IsTallyOfTurn}
+use Rattle.history_laws.specs.CallerLaws.{AttachesGiveOnce}
 use Rattle.history_laws.specs.EngineLaws.{MainHasTransition, RefusalsAreAnswers, TalliesAreAnswers}
 use Rattle.history_laws.proofs.MainCalls.{OwnAt, own_at}
 use Rattle.session_runs.specs.declared.records.ChannelFiles.{ChannelFiles}
@@ -50,7 +51,7 @@ use Rattle.session_laws.specs.RecordedRuns.{run_channels, clients_in}
 use Rattle.session_laws.specs.OneAnswer.{faults_of_outcome, clashes_of_outcome, faults_recorded, clashes_recorded, OneAnswerEach}
 use Rattle.session_laws.proofs.EachCaller.{all_each}
 use Rattle.session_laws.proofs.KeptTogether.{names_own}
-use Rattle.session_laws.proofs.LoggerEnd.{none_taken_back}
+use Rattle.session_laws.proofs.LoggerEnd.{given_once}
 use Rattle.session_laws.proofs.RecordedStarts.{refused_in, run_in, run_recorded, starts_joined}
 use Rattle.session_laws.specs.MadeRuns.{RunIn}
 use Rattle.session_laws.proofs.RecordsMade.{ToldEnds, ends_so}
@@ -312,13 +313,14 @@ refused_alone c first now sheet start client why other so = elim so as (λ w. cl
   ]
 ]
 
--- the laws of engines, and that of the counts of closed sessions
+-- the laws of engines, that of the clients that a caller is given, and that of the counts of closed sessions
 pub record OneLaws : Type 0 where
   pub main : MainHasTransition
   pub refusals : RefusalsAreAnswers
   pub tallies : TalliesAreAnswers
   pub rise : StartsRise
   pub counts : CountsTell
+  pub once : AttachesGiveOnce
 
 -- the logger's turns
 abbrev turns : ClosedSession → List MemberTurn
@@ -381,7 +383,7 @@ module _ (laws : OneLaws) (c : ClosedSession) (ends : MembersAtEnd c) (first now
         let answered : t.turn.answer ≡ Some (Yes (Channels told)) = t.answered ∙ ap (λ (a : Answer). Some a) (yes_channels t.answer told t.tally_is) in
         let count : fault_count t.turn ≡ sum_by faults_of_end told = ap (count_in_answer faults_of_answer) answered in
         let of : t.turn.order.start ≡ r.start = ap (λ (o : Order). o.start) t.of_begin.order in
-        let files = files_within told c.slots (ends.logger.stands (none_taken_back c ends)).holds.standing.numbered in
+        let files = files_within told c.slots (ends.logger.stands (given_once laws.once c ends)).holds.standing.numbered in
         omega (arith, files, count, told_by_turn fault_count ts t.turn r.start t.stands of)
 
     whole_told : (r : RunRecord) (quota : ℕ) → r.outcome ≡ Completed → FitsWhole (clients_in c) own (run_of r quota) r → ToldByTurns ts r

@@ -18,6 +18,7 @@ use Rattle.session_setup.specs.declared.declared.DeclaredLists.{DeclaredLists}
 use Rattle.session_runs.specs.declared.records.RunRecord.{RunRecord}
 use Rattle.session_runs.specs.FileRows.{HasFileNamed}
 use Rattle.session_runs.specs.RunEntries.{start_sheet}
+use Rattle.session_runs.specs.Members.{MembersCounted}
 use Rattle.session_runs.specs.RunsFit.{MainOwn, FitsRun, FitsRefused, FitsWhole, RecordsFit, run_of, starts_begun}
 use Rattle.daq_members.specs.LoggerSeats.{LoggerSeen}
 use Rattle.session_objects.specs.declared.record.SessionRecord.{SessionRecord}
@@ -54,8 +55,8 @@ module _ {D F : Type 0} {g : _} (read : F → FilesTold) (lists : DeclaredLists)
   abbrev now : FilesTold
   now = read logger.files
 
-  pub counts_met : GotAll → CountsTell → CountsHold closed first now
-  counts_met all tell = (let met : EndsMet read lists logger r ended = ends_met read lists logger r ended all in tell closed met.ends first now met.reasons met.names)
+  pub counts_met : GotAll → MembersCounted → CountsTell → CountsHold closed first now
+  counts_met all counted tell = (let met : EndsMet read lists logger r ended = ends_met read lists logger r ended all counted in tell closed met.ends first now met.reasons met.names)
 
   -- those who are told of in the records are those that were declared
   same_clients : ChannelsAgree → clients_declared lists ≡ clients_in closed
@@ -87,14 +88,14 @@ module _ {D F : Type 0} {g : _} (read : F → FilesTold) (lists : DeclaredLists)
         let fits : FitsRefused (clients_in closed) own (run_of kept fit.0) kept = was_refused (clients_in closed) own (run_of kept fit.0) kept client why kept.outcome is fit.1 in
         record { quota = fit.0; fits = fits; so = refused closed first now counts own more by_main kept fit.0 client why is fits }
 
-    pub one_met : GotAll → ChannelsAgree → OneAnswerEach → RecordsFit (clients_declared lists) own r.runs → OneAnswer r.runs first now
-    one_met all agree each fits =
-        let met : EndsMet read lists logger r ended = ends_met read lists logger r ended all in
+    pub one_met : GotAll → MembersCounted → ChannelsAgree → OneAnswerEach → RecordsFit (clients_declared lists) own r.runs → OneAnswer r.runs first now
+    one_met all counted agree each fits =
+        let met : EndsMet read lists logger r ended = ends_met read lists logger r ended all counted in
         each closed met.ends first now met.reasons met.names own more by_main r.runs (rw (same_clients agree) at fits)
 
-    pub rises_met : GotAll → ChannelsAgree → RisesToldEach → starts_begun more ≡ [] → RecordsFit (clients_declared lists) own r.runs → RisesTold (specs_in logger.slots) r.runs first now
-    rises_met all agree each none fits =
-        let met : EndsMet read lists logger r ended = ends_met read lists logger r ended all in
+    pub rises_met : GotAll → MembersCounted → ChannelsAgree → RisesToldEach → starts_begun more ≡ [] → RecordsFit (clients_declared lists) own r.runs → RisesTold (specs_in logger.slots) r.runs first now
+    rises_met all counted agree each none fits =
+        let met : EndsMet read lists logger r ended = ends_met read lists logger r ended all counted in
         each closed met.ends first now met.reasons met.names own more by_main none r.runs (rw (same_clients agree) at fits)
 
     -- There is one record for each start that the main thread began, and each of a run that came about holds.

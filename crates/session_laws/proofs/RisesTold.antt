@@ -1,5 +1,5 @@
 -- A count that rose is told by a record: where all that the logger told of a start is in the record of it.
-use Rattle.std.specs.Prelude.{◌≡◌, ◌≤◌, ℕ, zero, suc, cond, is_some, sum_by, List, [], ◌∷◌, ◌++◌, length, slice_get, Contains, Option, Some, None, refl}
+use Rattle.std.specs.Prelude.{◌≡◌, ◌≢◌, ◌≤◌, ℕ, zero, suc, cond, is_some, sum_by, List, [], ◌∷◌, ◌++◌, length, slice_get, Contains, Option, Some, None, Ok, ◌⊎◌, refl}
 use Rattle.std.specs.Option.{option_map, option_to_list}
 use Rattle.std.proofs.Common.{ap, sym, subst, ◌∙◌, arith, inl, inr}
 use Rattle.std.proofs.lemmas.List.Sums.{sum_by-cons}
@@ -19,7 +19,9 @@ use Rattle.buffer_core.specs.Ports.{Access}
 use Rattle.buffer_core.specs.Slots.{slot_at, passes}
 use Rattle.transitions.specs.declared.answers.Answer.TheVariants.{Yes, No}
 use Rattle.transitions.specs.declared.answers.Tally.TheVariants.{Plain, Front, Channels, Report}
-use Rattle.member_model.specs.RunEngines.{Sheet, Answer, EngineEntry}
+use Rattle.transitions.specs.declared.replies.Progress.TheVariants.{Done}
+use Rattle.transitions.specs.declared.entry.EngineEntry.TheVariants.{Begin, Check}
+use Rattle.member_model.specs.RunEngines.{Sheet, Answer, ClientTally, EngineEntry}
 use Rattle.member_model.specs.Turns.{MemberTurn, HasTurn, AreEngineTurns}
 use Rattle.member_model.specs.TurnCalls.{member_turns}
 use Rattle.mid_logger.specs.declared.channel.Channel.{Channel}
@@ -32,38 +34,39 @@ use Rattle.mid_logger.specs.declared.stage.ChannelStage.TheVariants.{Broken}
 use Rattle.mid_logger.specs.Channels.{channel_run}
 use Rattle.mid_logger.specs.ChannelTurns.{broken_run}
 use Rattle.loggers.specs.LoggerStands.{LoggerStands, ToldSo}
-use Rattle.loggers.specs.LeftNames.{IsStartedRun, IsBrokenName, KeepsNames}
+use Rattle.loggers.specs.LeftNames.{IsStartedRun, IsBrokenName, IsUndoneFile, KeepsNames}
 use Rattle.loggers.specs.OtherFiles.{specs_in}
 use Rattle.loggers.specs.Reasons.{AnswerFits, ClashesAreTold, HaveNoLimit}
 use Rattle.loggers.specs.ToldCounts.{faults_of_state, faults_of_answer, clashes_of_answer, undone_of_answer, undone_by, count_in_answer, faults_told, starts_undone, broken_off}
 use Rattle.loggers.proofs.ManyRose.{member_counts, off_of}
-use Rattle.history_laws.specs.BegunTurns.{HasTransition}
+use Rattle.history_laws.specs.BegunTurns.{HasTransition, IsCalledOff, WasBegun}
 use Rattle.history_laws.specs.EngineLaws.{LoneNosAreRefusals}
 use Rattle.session_runs.specs.declared.records.ChannelFiles.{ChannelFiles}
 use Rattle.session_runs.specs.declared.records.RunRecord.{RunRecord}
 use Rattle.session_runs.specs.MadeTransitions.{TransitionIn}
 use Rattle.session_runs.specs.KeptRuns.{run_channel}
 use Rattle.session_runs.specs.RunEntries.{start_sheet}
-use Rattle.session_runs.specs.RunsFit.{MainOwn, FitsWhole, RecordsFit, run_of, starts_begun}
+use Rattle.session_runs.specs.RunsFit.{MainOwn, FitsRun, FitsWhole, RecordsFit, run_of, starts_begun}
 use Rattle.session_runs.specs.ToldTallies.{channel_told, ended_files, files_told, files_of, ends_told}
 use Rattle.composition.specs.Sessions.{Session}
 use Rattle.composition.specs.SessionRuns.{SessionRun, IsStoppedRun}
-use Rattle.composition.proofs.SessionTurns.{IsStartTurn, one_start, speaks, start_turn}
+use Rattle.composition.proofs.SessionTurns.{IsStartTurn, one_begin, one_start, speaks, start_turn}
 use Rattle.session_laws.specs.ClosedSessions.{ClosedSession, logger_client, logger_caller, engine_calls, session_of}
 use Rattle.session_laws.specs.MembersAtEnd.{MembersAtEnd}
 use Rattle.session_laws.specs.CountedFaults.{LoggerReasons, LoggerNames}
 use Rattle.session_laws.specs.MadeRuns.{RunIn}
 use Rattle.session_laws.specs.RecordedRuns.{run_channels, clients_in}
-use Rattle.session_laws.specs.OneAnswer.{faults_recorded, clashes_recorded, clashes_of_outcome, NoneRefused, HasBrokenFile, RisesToldEach}
+use Rattle.session_laws.specs.OneAnswer.{faults_recorded, clashes_recorded, clashes_of_outcome, NoneRefused, HasBrokenFile, HasRefusedFile, RisesToldEach}
+use Rattle.session_laws.specs.OtherNames.{RefusesStart}
 use Rattle.session_laws.proofs.KeptTogether.{names_own, one_number}
-use Rattle.session_laws.proofs.LoggerEnd.{none_taken_back}
+use Rattle.session_laws.proofs.LoggerEnd.{given_once}
 use Rattle.session_laws.proofs.NamesStay.{StartBegun, start_begun, abort_begun, HasSpec, has_spec}
 use Rattle.session_laws.proofs.OneEach.{faults_of_end, end_counts, faults_of_files, files_first}
 use Rattle.session_laws.proofs.RecordedStarts.{RecordOf, record_of, refused_in, run_in, run_recorded, was_refused, whole}
 use Rattle.session_laws.proofs.RecordsMade.{ToldEnds, ends_so, ends_there}
 use Rattle.session_laws.proofs.RunsMade.{has_made, made_are_stopped}
 use Rattle.session_laws.proofs.RunTurns.{TurnLaws, Turned, TurnsOf, there_within, one_end, are_turns, turns_of_run, told_is, told_there, never_open}
-use Rattle.session_laws.proofs.UndoneNames.{started_in}
+use Rattle.session_laws.proofs.UndoneNames.{called_off, never_undone, started_in}
 
 -- the laws of engines and of loggers
 pub record RiseLaws : Type 0 where
@@ -145,7 +148,7 @@ module _ (laws : RiseLaws) (c : ClosedSession) (ends : MembersAtEnd c) where
   are = are_turns laws.turns c ends
 
   stands : LoggerStands ends.logger.run ends.logger.dumps c.slots ends.logger.ports ts c.files
-  stands = ends.logger.stands (none_taken_back c ends)
+  stands = ends.logger.stands (given_once laws.turns.once c ends)
 
   -- a run that came about, with what the logger told of its files
   record RunCame (r : RunRecord) : Type 0 where
@@ -209,6 +212,140 @@ module _ (laws : RiseLaws) (c : ClosedSession) (ends : MembersAtEnd c) where
     fits_as : (t : MemberTurn) (answer : Option Answer) → HasTurn ts t → t.answer ≡ answer → AnswerFits (specs_in c.slots) t.transition answer
     fits_as t answer has is = subst (λ (a : Option Answer). AnswerFits (specs_in c.slots) t.transition a) is (reasons.fits t has)
 
+    -- the start of such a record was refused, by the main thread's own calls
+    record RefusalOf (r : RunRecord) (client : ℕ) (why : Why) : Type 0 where
+      sheet : Sheet
+      number : sheet.run ≡ r.run
+      tallies : List ClientTally
+      made : TransitionIn (engine_calls c main_caller) Start sheet r.start (Refused client why) tallies
+
+    refusal_of : (r : RunRecord) (fit : FitsRun (clients_in c) own r) (client : ℕ) (why : Why) → r.outcome ≡ Refused client why → RefusalOf r client why
+    refusal_of r fit client why is =
+        let start = (was_refused (clients_in c) own (run_of r fit.0) r client why r.outcome is fit.1).start in
+        record {
+          sheet = start_sheet (length c.analyzers) r.run r.time0 fit.0 start.dump;
+          number = refl;
+          tallies = start.tallies;
+          made = refused_in (clients_in c) own more (engine_calls c main_caller) calls r fit.0 client why is start;
+        }
+
+    refuses_start : (r : RunRecord) (fit : FitsRun (clients_in c) own r) (client : ℕ) (why : Why) → r.outcome ≡ Refused client why → RefusesStart (engine_calls c main_caller) r.start
+    refuses_start r fit client why is =
+        let refusal : RefusalOf r client why = refusal_of r fit client why is in
+        record { sheet = refusal.sheet; client = client; why = why; tallies = refusal.tallies; made = refusal.made }
+
+    -- a start of the logger came about, where its run was not called off
+    completed : (start : ℕ) (o : OfStart start) → (IsCalledOff ts start → ⊥) → o.kept.outcome ≡ Completed
+    completed start o never = by_outcome o.kept.outcome refl
+      where
+        by_outcome : (outcome : StartOutcome) → o.kept.outcome ≡ outcome → o.kept.outcome ≡ Completed
+        by_outcome Completed is = is
+        by_outcome (Refused client why) is = absurd (never (subst (λ (n : ℕ). IsCalledOff ts n) o.is (called_off laws.turns c ends o.kept.start (refuses_start o.kept o.fit client why is))))
+
+    -- a channel that broke off has a run that is not over
+    off_none : (n : ℕ) (ch : Channel) (run : BegunRun) (fallen : Fallen) → slot_at c.slots n ≡ Some ch → ch.stage ≡ Broken run fallen → ⊥
+    off_none n ch run fallen there is =
+        let started : IsStartedRun ts run.opened = laws.turns.started ends.logger.run ends.logger.dumps c.slots ends.logger.ports ts c.files stands are n ch run.opened there (ap channel_run is) in
+        let start = started.is_start.is_start in
+        let o : OfStart started.begin.order.start = turn_begun started.begin start.stands start.is in
+        let done : o.kept.outcome ≡ Completed = completed started.begin.order.start o (λ off. started.on off.turn off.stands off.is (off.of ∙ start.of)) in
+        let came : RunCame o.kept = came_of started.begin.order.start o done in
+        never_open laws.turns c ends came.run came.stopped n ch run.opened there (ap channel_run is) (sym start.of ∙ (sym o.is ∙ sym came.of))
+
+    -- the number of the run in the record of a start that came about
+    came_number : (begin : MemberTurn) → HasTurn ts begin → begin.transition ≡ Start → (o : OfStart begin.order.start) → RunCame o.kept → o.kept.run ≡ begin.order.run
+    came_number begin has starts o came =
+        let turn : IsStartTurn came.run begin = start_turn laws.turns.facts its (laws.turns.keep c ends) came.run came.stopped (logger_client c) begin (record { stands = has; is = starts; of = sym o.is ∙ sym came.of }) in
+        sym came.number ∙ sym (ap (λ (x : Order). x.run) turn.order)
+
+    -- a channel of which it is told that it broke off is called Broken in the record of the run
+    broken_file : (name : List ℕ) → IsBrokenName (specs_in c.slots) ts name → HasBrokenFile runs name
+    broken_file name o =
+        let begin : MemberTurn = o.stopped.begin in
+        let start = o.stopped.is_start.is_start in
+        let its_record : OfStart begin.order.start = turn_begun begin start.stands start.is in
+        let r : RunRecord = its_record.kept in
+        let done : r.outcome ≡ Completed = completed begin.order.start its_record
+        (λ off. one_end ts begin.order.start begin o.stopped.stop off.turn are (record { stands = start.stands; is = start.is; of = refl })
+        (record { stands = o.stopped.stands; is = o.stopped.is; of = sym start.of }) (record { stands = off.stands; is = off.is; of = off.of })) in
+        let came : RunCame r = came_of begin.order.start its_record done in
+        let of : r.start ≡ o.stopped.stop.order.start = its_record.is ∙ start.of in
+        let files : r.files ≡ files_told o.ends (run_channels c.slots) = ends_recorded r came o.ends o.stopped.stop (record { stands = o.stopped.stands; is = o.stopped.is; of = sym of }) o.stopped.answered in
+        let channel : HasSpec c.slots o.number o.spec = has_spec c.slots o.number o.spec o.there in
+        let ch : Channel = channel.channel in
+        let number : ch.spec.number ≡ o.number = stands.holds.standing.numbered o.number ch channel.at in
+        let found = files_there o.ends c.slots o.number ch o.told channel.at (subst (λ (i : ℕ). slice_get o.ends i ≡ Some o.told) (sym number) o.at) in
+        let run : r.run ≡ o.run = came_number begin start.stands start.is its_record came ∙ o.stopped.number in
+        record {
+          number = its_record.place;
+          run = r;
+          at = its_record.at;
+          place = found.0;
+          files = ended_files (run_channel ch.spec) o.told;
+          there = subst (λ (l : List ChannelFiles). slice_get l found.0 ≡ Some (ended_files (run_channel ch.spec) o.told)) (sym files) found.1;
+          broken = o.broken;
+          sub = o.sub;
+          few = o.few;
+          is = ap (λ (s : ChannelSpec). piece_name_by s.pattern r.run o.sub) channel.is ∙ (ap (λ (n : ℕ). piece_name_by o.spec.pattern n o.sub) run ∙ o.is);
+        }
+
+    -- the number of the run in the record of a start that was refused
+    refused_number : (begin : MemberTurn) → HasTurn ts begin → begin.transition ≡ Start → (o : OfStart begin.order.start) → (client : ℕ) (why : Why) → o.kept.outcome ≡ Refused client why → o.kept.run ≡ begin.order.run
+    refused_number begin has starts o client why is =
+        let r : RefusalOf o.kept client why = refusal_of o.kept o.fit client why is in
+        let stood : HasTransition c.engine Start r.sheet o.kept.start (Refused client why) r.tallies = has_made laws.turns.main c.engine Start r.sheet o.kept.start (Refused client why) r.tallies ends.engine r.made in
+        let was : WasBegun c.engine begin = laws.turns.facts.begun (logger_caller c) (logger_client c) c.engine ends.engine (speaks (logger_client c) c.engine (names_own c ends)) begin has in
+        let kind : was.transition ≡ Start = elim was.of_begin.kind as (λ w. was.transition ≡ Start) [
+          | inl same ↦ sym same ∙ starts
+          | inr off ↦ off.0
+        ] in
+        let whole : c.engine ≡ was.earlier ++ (was.caller, Begin Start was.sheet (Ok o.kept.start)) ∷ was.later =
+        was.stands
+        ∙ (ap (λ (t : Transition). was.earlier ++ (was.caller, Begin t was.sheet (Ok begin.order.start)) ∷ was.later) kind
+        ∙ ap (λ (n : ℕ). was.earlier ++ (was.caller, Begin Start was.sheet (Ok n)) ∷ was.later) (sym o.is)) in
+        let same : r.sheet ≡ was.sheet =
+        one_begin laws.turns.facts.rise c.engine ends.engine o.kept.start stood.earlier (stood.between ++ (stood.closer, Check (Done (Refused client why)) r.tallies) ∷ stood.later) stood.opener r.sheet stood.whole
+        was.earlier was.later was.caller was.sheet whole in
+        sym r.number ∙ (ap (λ (x : Sheet). x.run) same ∙ sym (ap (λ (x : Order). x.run) was.of_begin.order))
+
+    -- a run whose start was undone has its record, as refused
+    undone_file : (name : List ℕ) → IsUndoneFile (specs_in c.slots) ts name → HasRefusedFile (specs_in c.slots) runs name
+    undone_file name o = by_outcome its_record.kept.outcome refl
+      where
+        its_record : OfStart o.undone.begin.order.start
+        its_record = turn_begun o.undone.begin o.undone.stands o.undone.is
+
+        refused : its_record.kept.outcome ≢ Completed
+        refused done =
+            let came : RunCame its_record.kept = came_of o.undone.begin.order.start its_record done in
+            never_undone laws.turns c ends came.run came.stopped o.undone.begin (record { stands = o.undone.stands; is = o.undone.is; of = sym its_record.is ∙ sym came.of }) o.undone.undone
+
+        by_outcome : (outcome : StartOutcome) → its_record.kept.outcome ≡ outcome → HasRefusedFile (specs_in c.slots) runs name
+        by_outcome Completed is = absurd (refused is)
+        by_outcome (Refused client why) is = record {
+          number = its_record.place;
+          run = its_record.kept;
+          at = its_record.at;
+          refused = refused;
+          place = o.number;
+          spec = o.spec;
+          there = o.there;
+          sub = o.sub;
+          is = ap (λ (n : ℕ). piece_name_by o.spec.pattern n o.sub) (refused_number o.undone.begin o.undone.stands o.undone.is its_record client why is ∙ o.undone.number) ∙ o.is;
+        }
+
+    -- so it is with the file of the first fault
+    named_so : LoggerNames c ends first now → first.first ≡ None → (name : List ℕ) → now.first ≡ Some name → HasBrokenFile runs name ⊎ HasRefusedFile (specs_in c.slots) runs name
+    named_so names none name is =
+        let kept : KeepsNames c.slots first now ts = names (given_once laws.turns.once c ends) in
+        elim (kept.fault_known none name is) as (λ w. HasBrokenFile runs name ⊎ HasRefusedFile (specs_in c.slots) runs name) [
+          | inl told ↦ inl (broken_file name told)
+          | inr rest ↦ elim rest as (λ w. HasBrokenFile runs name ⊎ HasRefusedFile (specs_in c.slots) runs name) [
+            | inl off ↦ absurd (off_none off.number off.channel off.run off.fallen off.there off.of)
+            | inr undone ↦ inr (undone_file name undone)
+          ]
+        ]
+
     -- Where each start came about.
     module _ (all : NoneRefused runs) where
       refuses_none : (t : MemberTurn) (why : Why) → HasTurn ts t → t.answer ≡ Some (No why) → ⊥
@@ -235,55 +372,8 @@ module _ (laws : RiseLaws) (c : ClosedSession) (ends : MembersAtEnd c) where
       undone_none t has Resume is = refl
       undone_none t has StartAbort is = absurd (calls_none_off t has is)
 
-      -- a channel that broke off has a run that is not over
-      off_none : (n : ℕ) (ch : Channel) (run : BegunRun) (fallen : Fallen) → slot_at c.slots n ≡ Some ch → ch.stage ≡ Broken run fallen → ⊥
-      off_none n ch run fallen there is =
-          let started : IsStartedRun ts run.opened = laws.turns.started ends.logger.run ends.logger.dumps c.slots ends.logger.ports ts c.files stands are n ch run.opened there (ap channel_run is) in
-          let start = started.is_start.is_start in
-          let o : OfStart started.begin.order.start = turn_begun started.begin start.stands start.is in
-          let came : RunCame o.kept = came_of started.begin.order.start o (all o.place o.kept o.at) in
-          never_open laws.turns c ends came.run came.stopped n ch run.opened there (ap channel_run is) (sym start.of ∙ (sym o.is ∙ sym came.of))
-
       none_undone : starts_undone ts ≡ 0
       none_undone = turns_none (λ (t : MemberTurn). undone_by t.transition t.answer) ts (λ t has. undone_none t has t.transition refl)
-
-      -- a channel of which it is told that it broke off is called Broken in the record of the run
-      broken_file : (name : List ℕ) → IsBrokenName (specs_in c.slots) ts name → HasBrokenFile runs name
-      broken_file name o =
-          let begin : MemberTurn = o.stopped.begin in
-          let start = o.stopped.is_start.is_start in
-          let its_record : OfStart begin.order.start = turn_begun begin start.stands start.is in
-          let r : RunRecord = its_record.kept in
-          let came : RunCame r = came_of begin.order.start its_record (all its_record.place r its_record.at) in
-          let of : r.start ≡ o.stopped.stop.order.start = its_record.is ∙ start.of in
-          let files : r.files ≡ files_told o.ends (run_channels c.slots) = ends_recorded r came o.ends o.stopped.stop (record { stands = o.stopped.stands; is = o.stopped.is; of = sym of }) o.stopped.answered in
-          let channel : HasSpec c.slots o.number o.spec = has_spec c.slots o.number o.spec o.there in
-          let ch : Channel = channel.channel in
-          let number : ch.spec.number ≡ o.number = stands.holds.standing.numbered o.number ch channel.at in
-          let found = files_there o.ends c.slots o.number ch o.told channel.at (subst (λ (i : ℕ). slice_get o.ends i ≡ Some o.told) (sym number) o.at) in
-          let turn : IsStartTurn came.run begin = start_turn laws.turns.facts its (laws.turns.keep c ends) came.run came.stopped (logger_client c) begin (record { stands = start.stands; is = start.is; of = sym its_record.is ∙ sym came.of }) in
-          let run : r.run ≡ o.run = sym came.number ∙ (sym (ap (λ (x : Order). x.run) turn.order) ∙ o.stopped.number) in
-          record {
-            number = its_record.place;
-            run = r;
-            at = its_record.at;
-            place = found.0;
-            files = ended_files (run_channel ch.spec) o.told;
-            there = subst (λ (l : List ChannelFiles). slice_get l found.0 ≡ Some (ended_files (run_channel ch.spec) o.told)) (sym files) found.1;
-            broken = o.broken;
-            sub = o.sub;
-            few = o.few;
-            is = ap (λ (s : ChannelSpec). piece_name_by s.pattern r.run o.sub) channel.is ∙ (ap (λ (n : ℕ). piece_name_by o.spec.pattern n o.sub) run ∙ o.is);
-          }
-
-      -- so it is with the file of the first fault
-      named_so : LoggerNames c ends first now → first.first ≡ None → (name : List ℕ) → now.first ≡ Some name → HasBrokenFile runs name
-      named_so names none name is =
-          let kept : KeepsNames c.slots first now ts = names (none_taken_back c ends) in
-          elim (kept.first_fault none none_undone name is) as (λ w. HasBrokenFile runs name) [
-            | inl told ↦ broken_file name told
-            | inr off ↦ absurd (off_none off.number off.channel off.run off.fallen off.there off.of)
-          ]
 
       -- And where no file broke off.
       module _ (quiet : sum_by faults_recorded runs ≡ 0) where
@@ -329,11 +419,9 @@ module _ (laws : RiseLaws) (c : ClosedSession) (ends : MembersAtEnd c) where
       refused_at t channel has starts answered o Completed is = never_refused t (Exists channel) has starts answered o is
       refused_at t channel has starts answered o (Refused client why) is =
           let n : ℕ = logger_client c in
-          let start = (was_refused (clients_in c) own (run_of o.kept o.fit.0) o.kept client why o.kept.outcome is o.fit.1).start in
-          let sheet : Sheet = start_sheet (length c.analyzers) o.kept.run o.kept.time0 o.fit.0 start.dump in
-          let made : TransitionIn (engine_calls c main_caller) Start sheet o.kept.start (Refused client why) start.tallies = refused_in (clients_in c) own more (engine_calls c main_caller) calls o.kept o.fit.0 client why is start in
-          let stood : HasTransition c.engine Start sheet o.kept.start (Refused client why) start.tallies = has_made laws.turns.main c.engine Start sheet o.kept.start (Refused client why) start.tallies ends.engine made in
-          let told : Refused client why ≡ Refused n (Exists channel) = laws.nos (logger_caller c) n c.engine ends.engine (speaks n c.engine (names_own c ends)) 200 (one_number c ends) sheet o.kept.start (Refused client why) start.tallies stood t has starts (sym o.is) (Exists channel) answered in
+          let r : RefusalOf o.kept client why = refusal_of o.kept o.fit client why is in
+          let stood : HasTransition c.engine Start r.sheet o.kept.start (Refused client why) r.tallies = has_made laws.turns.main c.engine Start r.sheet o.kept.start (Refused client why) r.tallies ends.engine r.made in
+          let told : Refused client why ≡ Refused n (Exists channel) = laws.nos (logger_caller c) n c.engine ends.engine (speaks n c.engine (names_own c ends)) 200 (one_number c ends) r.sheet o.kept.start (Refused client why) r.tallies stood t has starts (sym o.is) (Exists channel) answered in
           let one : clashes_recorded o.kept ≡ 1 = ap clashes_of_outcome (is ∙ told) in
           omega (arith, one, quiet, member_counts clashes_recorded runs o.place o.kept o.at)
 
@@ -355,5 +443,5 @@ pub rises_told : RiseLaws → RisesToldEach
 rises_told laws c ends first now reasons names own more calls none_more runs fits = record {
   clashes = λ unlimited quiet. clashes_so laws c ends first now reasons own more calls none_more runs fits quiet unlimited;
   faults = faults_so laws c ends first now reasons own more calls none_more runs fits;
-  named = λ all. named_so laws c ends first now reasons own more calls none_more runs fits all names;
+  named = named_so laws c ends first now reasons own more calls none_more runs fits names;
 }

@@ -25,6 +25,7 @@ use Rattle.loggers.specs.LoggerStands.{HasEndTurn, IsStageOf, IsStagePart, IsSta
 use Rattle.loggers.specs.LeftNames.{StandingHasStarted}
 use Rattle.loggers.proofs.TurnsKnown.{no_end_turn}
 use Rattle.history_laws.specs.BegunTurns.{HasTally}
+use Rattle.history_laws.specs.CallerLaws.{AttachesGiveOnce}
 use Rattle.history_laws.specs.EngineLaws.{MainHasTransition, RefusedAreCalledOff}
 use Rattle.composition.specs.Sessions.{Session}
 use Rattle.composition.specs.SessionRuns.{SessionRun, IsStoppedRun}
@@ -34,7 +35,7 @@ use Rattle.session_laws.specs.ClosedSessions.{ClosedSession, logger_client, logg
 use Rattle.session_laws.specs.MembersAtEnd.{MembersAtEnd}
 use Rattle.session_laws.specs.EndLaws.{EndsKeep}
 use Rattle.session_laws.proofs.KeptTogether.{names_own}
-use Rattle.session_laws.proofs.LoggerEnd.{none_taken_back}
+use Rattle.session_laws.proofs.LoggerEnd.{given_once}
 
 -- Lists.
 
@@ -50,6 +51,7 @@ pub record TurnLaws : Type 0 where
   pub calls_off : RefusedAreCalledOff
   pub started : StandingHasStarted
   pub keep : EndsKeep
+  pub once : AttachesGiveOnce
 
 -- A run has one end.
 
@@ -226,7 +228,7 @@ module _ (laws : TurnLaws) (c : ClosedSession) (ends : MembersAtEnd c) where
   -- no channel has the run any more
   pub never_open : (run : SessionRun) → IsStoppedRun its run → (n : ℕ) (ch : Channel) (opened : ChannelRun) → slot_at c.slots n ≡ Some ch → channel_run ch.stage ≡ Some opened → opened.start ≡ run.start → ⊥
   never_open run came n ch opened there is number =
-      let holds = (ends.logger.stands (none_taken_back c ends)).holds in
+      let holds = (ends.logger.stands (given_once laws.once c ends)).holds in
       let port = there_within ends.logger.ports ch.spec.buffer (holds.served n ch there) in
       by_run ends.logger.run port.0 (holds.stages n ch port.0 there port.1) holds.told (holds.going are_turns)
     where

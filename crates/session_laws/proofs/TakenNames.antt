@@ -22,7 +22,7 @@ use Rattle.mid_logger.specs.declared.channel.Channel.{Channel}
 use Rattle.mid_logger.specs.declared.channel_spec.ChannelSpec.{ChannelSpec}
 use Rattle.mid_logger.specs.Patterns.{file_name_by}
 use Rattle.loggers.specs.OtherFiles.{specs_in}
-use Rattle.loggers.specs.LeftNames.{HasUntoldFault, IsStoppedRunOf, IsStoppedName, IsBrokenName, IsUndoneFile, IsFaultOf, NamesFault, IsGivenBefore, IsNameMade, AreNamesFree, IsNameTaken, FindsNames, EachBehind, KeepsNames}
+use Rattle.loggers.specs.LeftNames.{HasUntoldFault, IsStoppedRunOf, IsStoppedName, IsBrokenName, IsUndoneFile, IsFaultOf, NamesFaultOfStart, IsGivenBefore, IsNameMade, AreNamesFree, IsNameTaken, FindsNames, EachBehind, KeepsNames}
 use Rattle.loggers.proofs.FilesLeft.{spec_at}
 use Rattle.history_laws.specs.BegunTurns.{StartsComeLast}
 use Rattle.history_laws.specs.EngineLaws.{RunsAreOver}
@@ -35,7 +35,7 @@ use Rattle.session_laws.specs.MadeRuns.{RunIn}
 use Rattle.session_laws.specs.OtherNames.{AreStartsOver, ToldOf, HasMadeBefore, HasBrokenBefore, HasRefusedBefore, IsFirstFile, HasFirstFault, IsMadeName, GivesNameBefore, AreFreeNames, IsTakenName}
 use Rattle.session_laws.specs.CountedFaults.{LoggerNames}
 use Rattle.session_laws.proofs.KeptTogether.{names_own}
-use Rattle.session_laws.proofs.LoggerEnd.{none_taken_back}
+use Rattle.session_laws.proofs.LoggerEnd.{given_once}
 use Rattle.session_laws.proofs.LoggerRefusals.{always_called}
 use Rattle.session_laws.proofs.NamesStay.{StartBegun, start_begun, HasSpec, has_spec}
 use Rattle.session_laws.proofs.RunsMade.{made_are_stopped}
@@ -167,7 +167,7 @@ module _ (laws : TurnLaws) (over_law : RunsAreOver) (c : ClosedSession) (ends : 
             let turn : IsStartTurn r begin = start_turn laws.facts (session_of c ends.moments) keep r its_run (logger_client c) begin (record { stands = has; is = first.is; of = sym came.2 }) in
             let stops : Turned turns Stop r.start stopped.stop = record { stands = among stopped.stop stopped.stands; is = stopped.is; of = sym first.of ∙ sym came.2 } in
             let told_at = told_there laws c ends r its_run stopped.stop stops ends_told stopped.answered in
-            let number_is : number ≡ ch.spec.number = sym ((ends.logger.stands (none_taken_back c ends)).holds.standing.numbered number ch channel.at) in
+            let number_is : number ≡ ch.spec.number = sym ((ends.logger.stands (given_once laws.once c ends)).holds.standing.numbered number ch channel.at) in
             record {
               its = r;
               made = came.1;
@@ -206,7 +206,7 @@ module _ (laws : TurnLaws) (over_law : RunsAreOver) (c : ClosedSession) (ends : 
       let r : SessionRun = made.run in
       let run : IsStoppedRun (session_of c ends.moments) r = made_are_stopped laws.main (session_of c ends.moments) ends.engine r made.made in
       let t : TurnsOf turns r.start = turns_of_run laws c ends r run in
-      let stands = (ends.logger.stands (none_taken_back c ends)).holds in
+      let stands = (ends.logger.stands (given_once laws.once c ends)).holds in
       let began : HasTurn older t.begin = starts t.begin t.starts.stands t.starts.is (subst (λ (n : ℕ). n < start) (sym t.starts.of) made.before) in
       let stop_of : t.stop.order.start ≡ r.start = t.stops.of in
       let ended : HasTurn older t.stop = stops t.begin t.stop t.stops.stands t.stops.is (subst (λ (n : ℕ). n < start) (sym stop_of) made.before) (record { stands = began; is = t.starts.is; of = t.starts.of ∙ sym stop_of }) in
@@ -282,7 +282,7 @@ module _ (laws : TurnLaws) (over_law : RunsAreOver) (c : ClosedSession) (ends : 
   -- what is told of names at a start turn
   before_turn : (first now : FilesTold) → LoggerNames c ends first now → IsTrue first.seen.names → (turn : MemberTurn) → HasTurn turns turn → turn.transition ≡ Start → Before (Found (HasUntoldFault c.slots turns first now) (specs_in c.slots) first.seen) turns turn
   before_turn first now names tells turn has starts =
-      let kept : KeepsNames c.slots first now turns = names (none_taken_back c ends) in
+      let kept : KeepsNames c.slots first now turns = names (given_once laws.once c ends) in
       before (Found (HasUntoldFault c.slots turns first now) (specs_in c.slots) first.seen) turns turn (kept.found tells) (are_turns laws c ends) last has starts
 
   pub taken_name : (first now : FilesTold) → LoggerNames c ends first now → IsTrue first.seen.names → AreStartsOver (engine_calls c main_caller) → (turn : MemberTurn) → HasTurn turns turn → turn.transition ≡ Start → (number : ℕ) → turn.answer ≡ Some (No (Exists number))
@@ -347,7 +347,7 @@ module _ (laws : TurnLaws) (over_law : RunsAreOver) (c : ClosedSession) (ends : 
   pub first_fault : (first now : FilesTold) → LoggerNames c ends first now → first.first ≡ None → AreStartsOver (engine_calls c main_caller) → (turn : MemberTurn) → HasTurn turns turn → turn.transition ≡ Start → (number : ℕ) → turn.answer ≡ Some (No (Fault number))
       → (run start : ℕ) → turn.order.run ≡ run → turn.order.start ≡ start → HasFirstFault c now run start number
   first_fault first now names none over turn has starts number answered run start run_is start_is =
-      let kept : KeepsNames c.slots first now turns = names (none_taken_back c ends) in
-      let b : Before (NamesFault (specs_in c.slots) first now) turns turn = before (NamesFault (specs_in c.slots) first now) turns turn kept.faults_named (are_turns laws c ends) last has starts in
+      let kept : KeepsNames c.slots first now turns = names (given_once laws.once c ends) in
+      let b : Before (NamesFaultOfStart (specs_in c.slots) first now) turns turn = before (NamesFaultOfStart (specs_in c.slots) first now) turns turn kept.faults_named (are_turns laws c ends) last has starts in
       let so : HasFirstFault c now turn.order.run turn.order.start number = fault_so over now b.older turn.order.run turn.order.start number b.among b.above (b.found none number answered) in
       subst (λ (n : ℕ). HasFirstFault c now n start number) run_is (subst (λ (n : ℕ). HasFirstFault c now turn.order.run n number) start_is so)

@@ -37,7 +37,7 @@ use Rattle.session_laws.specs.MadeRuns.{RunIn}
 use Rattle.session_laws.specs.OtherNames.{BeginsStartOf, RefusesStart, GivesNoName, GivesOthers, HasUndoneName, IsUnmadeName, IsNameKept}
 use Rattle.session_laws.specs.CountedFaults.{LoggerNames}
 use Rattle.session_laws.proofs.KeptTogether.{names_own}
-use Rattle.session_laws.proofs.LoggerEnd.{none_taken_back}
+use Rattle.session_laws.proofs.LoggerEnd.{given_once}
 use Rattle.session_laws.proofs.MainFirst.{logger_called}
 use Rattle.session_laws.proofs.NamesStay.{StartBegun, start_begun, HasSpec, has_spec}
 use Rattle.session_laws.proofs.RunsMade.{has_made, made_are_stopped}
@@ -123,7 +123,7 @@ module _ (laws : TurnLaws) (c : ClosedSession) (ends : MembersAtEnd c) where
       let stops : Turned turns Stop went.run.start stop = record { stands = o.stopped.stands; is = o.stopped.is; of = sym first.of ∙ sym went.of } in
       let answers : Some (Yes (Channels o.ends)) ≡ Some (Yes (Channels tells.ends)) = sym o.stopped.answered ∙ told_is laws c ends went.run went.came tells.index tells.ends tells.tells stop stops in
       let same : o.ends ≡ tells.ends = cc (answers) in
-      let number : ch.spec.number ≡ o.number = (ends.logger.stands (none_taken_back c ends)).holds.standing.numbered o.number ch channel.at in
+      let number : ch.spec.number ≡ o.number = (ends.logger.stands (given_once laws.once c ends)).holds.standing.numbered o.number ch channel.at in
       let at : slice_get tells.ends o.number ≡ Some others.told = subst (λ (n : ℕ). slice_get tells.ends n ≡ Some others.told) number tells.at in
       let both : Some o.told ≡ Some others.told = sym o.at ∙ (ap (λ (l : List ChannelEnd). slice_get l o.number) same ∙ at) in
       let told : o.told ≡ others.told = cc (both) in
@@ -133,7 +133,7 @@ module _ (laws : TurnLaws) (c : ClosedSession) (ends : MembersAtEnd c) where
   -- nor that of a run that a channel has: a run that came about is no channel's any more
   not_open : (name : List ℕ) → IsUnmadeName c name → IsOpenName c.slots name → ⊥
   not_open name unmade o =
-      let stands : LoggerStands ends.logger.run ends.logger.dumps c.slots ends.logger.ports turns c.files = ends.logger.stands (none_taken_back c ends) in
+      let stands : LoggerStands ends.logger.run ends.logger.dumps c.slots ends.logger.ports turns c.files = ends.logger.stands (given_once laws.once c ends) in
       let started : IsStartedRun turns o.opened = laws.started ends.logger.run ends.logger.dumps c.slots ends.logger.ports turns c.files stands (are_turns laws c ends) o.number o.channel o.opened o.there o.of in
       let first = started.is_start.is_start in
       let went : CameWithout name started.begin = came_without name unmade started.begin first.stands first.is (λ off. started.on off.turn off.stands off.is (off.of ∙ first.of)) in
@@ -197,7 +197,7 @@ module _ (laws : TurnLaws) (c : ClosedSession) (ends : MembersAtEnd c) where
 
   pub undone_stay : (first now : FilesTold) → LoggerNames c ends first now → IsTrue first.seen.names → (name : List ℕ) → IsUnmadeName c name → IsNameKept c first now name
   undone_stay first now names tells name unmade =
-      let kept : KeepsNames c.slots first now turns = names (none_taken_back c ends) in
+      let kept : KeepsNames c.slots first now turns = names (given_once laws.once c ends) in
       let left : NamesLeft (IsNameLeft (HasUntoldFault c.slots turns first now) (specs_in c.slots) turns first.seen) c.slots now.seen = kept.names tells in
       let above : (u : MemberTurn) → HasTurn turns u → u.order.start < suc (greatest turns) = λ u has. below_greatest turns u has in
       elim (left.each name) as (λ w. IsNameKept c first now name) [
@@ -218,7 +218,7 @@ module _ (laws : TurnLaws) (c : ClosedSession) (ends : MembersAtEnd c) where
   -- a file that was there at first is there, with the same bytes
   pub firsts_stay : (first now : FilesTold) → LoggerNames c ends first now → IsTrue first.seen.names → (name : List ℕ) (file : Stored) → first.seen.at name ≡ Some file → now.seen.at name ≡ Some file
   firsts_stay first now names tells name file there =
-      let kept : KeepsNames c.slots first now turns = names (none_taken_back c ends) in
+      let kept : KeepsNames c.slots first now turns = names (given_once laws.once c ends) in
       let Untold : Type 0 = HasUntoldFault c.slots turns first now in
       let left : NamesLeft (IsNameLeft Untold (specs_in c.slots) turns first.seen) c.slots now.seen = kept.names tells in
       let taken : first.seen.at name ≡ None → ⊥ = λ free. (let both : Some file ≡ None = sym there ∙ free in cc (both)) in

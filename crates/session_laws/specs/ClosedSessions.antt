@@ -1,5 +1,5 @@
 -- A session whose objects are closed: the one history of each object, its members, and the run files.
-use Rattle.std.specs.Prelude.{◌≡◌, ℕ, suc, ◌+◌, Bool, List, [], ◌∷◌, length, map, slice_get, Option, Some, None}
+use Rattle.std.specs.Prelude.{◌≡◌, ℕ, suc, ◌+◌, Bool, List, [], ◌∷◌, length, slice_get, Option, Some, None}
 use Rattle.daq_types.specs.Callers.{caller_of_client, entries_by}
 use Rattle.daq_types.specs.declared.events.Event.{Event}
 use Rattle.daq_types.specs.declared.runs.Order.{Order}
@@ -13,10 +13,8 @@ use Rattle.member_model.specs.RunEngines.{EngineEntry, EngineHistory}
 use Rattle.odb_tree.specs.Noting.{Watched}
 use Rattle.odb_watch.specs.declared.entry.WatchEntry.{WatchEntry}
 use Rattle.mid_logger.specs.declared.channel.Channel.{Channel}
-use Rattle.mid_logger.specs.ChannelTurns.{logger_name}
 use Rattle.loggers.specs.LoggerStands.{logger_channels}
 use Rattle.session_runs.specs.declared.opening.MemberName.{MemberName}
-use Rattle.session_runs.specs.Members.{members_named}
 use Rattle.analyzers.specs.declared.analyzer_run.EventRequest.{EventRequest}
 use Rattle.composition.specs.Sessions.{HasFront, Session, SessionAnalyzer, SessionFront}
 
@@ -38,15 +36,16 @@ pub record ClosedAnalyzer : Type 0 where
   pub buffer : ℕ
   pub wanted : EventRequest
 
--- A session: its buffers, each at its number; the history of the engine; what the database opened with, and its history; the
--- front-ends, each at its client number; the logger's channels, each at its number; the analyzers, in order; and the run files,
--- as they were at first and as they are. The logger's client number is the one behind those of the front-ends, and behind it
--- come those of the analyzers.
+-- A session: its buffers, each at its number; the history of the engine; what the database opened with, and its history; how its
+-- members are registered, by their client numbers; the front-ends, each at its client number; the logger's channels, each at its
+-- number; the analyzers, in order; and the run files, as they were at first and as they are. The logger's client number is the one
+-- behind those of the front-ends, and behind it come those of the analyzers.
 pub record ClosedSession : Type 0 where
   pub buffers : List ClosedBuffer
   pub engine : EngineHistory
   pub opened : Watched
   pub database : List (ℕ × WatchEntry)
+  pub registered : List MemberName
   pub fronts : List ClosedFront
   pub slots : List (Option Channel)
   pub analyzers : List ClosedAnalyzer
@@ -99,11 +98,6 @@ calls_on_database c by = entries_by by c.database
 -- the events that a caller's own calls on a buffer gave
 abbrev pub got_from_buffer : ClosedSession → (by buffer : ℕ) → List GotEvent
 got_from_buffer c by buffer = given_in by (opening (size_of_buffer c buffer)) (history_of_buffer c buffer)
-
--- how the members are registered: the front-ends in order, then the logger, and then the analyzers in order
-abbrev pub registered_members : ClosedSession → List MemberName
-registered_members c =
-    members_named (map (λ (f : ClosedFront). f.name) c.fronts) logger_name (map (λ (a : ClosedAnalyzer). a.name) c.analyzers)
 
 -- The session as the law of composition sees it.
 

@@ -18,7 +18,7 @@ use Rattle.member_model.specs.RunEngines.{Sheet, ClientTally}
 use Rattle.member_model.specs.TurnCalls.{member_turns}
 use Rattle.member_model.specs.LoggerKept.{LoggerChannel}
 use Rattle.loggers.specs.LoggerStands.{logger_channels}
-use Rattle.loggers.specs.NewLoggers.{NoneTakenBack}
+use Rattle.loggers.specs.NewLoggers.{GiveEachOnce}
 use Rattle.loggers.specs.OtherFiles.{specs_in}
 use Rattle.loggers.specs.Reasons.{GivesReasons, IsChannelNumber}
 use Rattle.loggers.specs.LeftNames.{KeepsNames}
@@ -35,10 +35,9 @@ abbrev pub LoggerReasons : (c : ClosedSession) → MembersAtEnd c → (first now
 LoggerReasons c ends first now =
     GivesReasons c.slots ends.logger.ports first now (member_turns (logger_client c) (engine_calls c (logger_caller c)))
 
--- Which names of run files it left as they were as it took its seat, where names are told, and no client of it is known to be detached
--- by another.
+-- Which names of run files it left as they were as it took its seat, where names are told, and its ports gave it no client that it has.
 abbrev pub LoggerNames : (c : ClosedSession) → MembersAtEnd c → (first now : FilesTold) → Type 0
-LoggerNames c ends first now = NoneTakenBack ends.logger.ports →
+LoggerNames c ends first now = GiveEachOnce ends.logger.ports →
     KeepsNames c.slots first now (member_turns (logger_client c) (engine_calls c (logger_caller c)))
 
 -- The client is a front-end that refused a start with this order as NotReady: its equipment takes no part in the run.

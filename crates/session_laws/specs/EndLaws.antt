@@ -1,8 +1,16 @@
 -- What a closed session's histories tell: statements of the laws.
-use Rattle.std.specs.Prelude.{◌≡◌, ◌<◌, ℕ, List, [], ◌++◌, length, slice_get, Some}
+use Rattle.std.specs.Prelude.{◌≡◌, ◌<◌, ℕ, true, false, List, [], ◌∷◌, ◌++◌, length, slice_get, Some, Result, Ok, ⊤}
 use Rattle.daq_types.specs.Callers.{entries_by, main_caller}
+use Rattle.daq_types.specs.declared.events.Event.{Event}
+use Rattle.buffer_core.specs.declared.replies.MarkRefusal.{MarkRefusal}
+use Rattle.buffer_core.specs.declared.entry.BufferEntry.{BufferEntry}
+use Rattle.buffer_core.specs.declared.entry.BufferEntry.TheVariants.{SendInRun, Pause, Resume}
+use Rattle.buffer_core.specs.Histories.{History}
+use Rattle.buffer_core.specs.Points.{past_of}
+use Rattle.buffer_core.specs.Runs.{is_paused_at}
 use Rattle.member_model.specs.RunEngines.{EngineEntry}
 use Rattle.member_model.specs.TurnCalls.{member_turns}
+use Rattle.history_laws.specs.PausedRuns.{HasUnpaused}
 use Rattle.loggers.specs.TurnMarks.{marks_called, marks_asked}
 use Rattle.composition.specs.Sessions.{Session, EngineLegal, MembersKeep}
 use Rattle.composition.specs.SessionRuns.{SessionRun, IsStoppedRun}
@@ -46,12 +54,31 @@ abbrev pub OtherNamesStay : Type 0
 OtherNamesStay = (c : ClosedSession) → MembersAtEnd c → (name : List ℕ) → IsOtherName c name →
     c.files.at name ≡ c.first_files.at name
 
--- In the history of each buffer the logger's own calls ask for just the marks for which its turns ask, in their order: of each pause
--- and each resume of a run whose start it accepted.
+-- Behind a call that pauses a run the run is paused in the buffer, by the marks that were accepted there; behind one that resumes it
+-- it is not.
+abbrev pub IsMarkSet : BufferEntry → (past : History) → Type 0
+IsMarkSet (Pause start reply) past = is_paused_at past start ≡ true
+IsMarkSet (Resume start reply) past = is_paused_at past start ≡ false
+IsMarkSet entry past = ⊤
+
+-- In the history of the buffer the logger's own calls ask for just the marks of pause and resume for which its turns ask, in their
+-- order: of each pause and each resume of a run whose start it accepted. Each is set, whatever the call was replied: it was refused only
+-- where its run was paused, or was not, as it asks, already. And behind a pause an event of the run was accepted only once the logger
+-- had resumed or ended the run there.
+pub record MarksIn (c : ClosedSession) (b : ClosedBuffer) : Type 0 where
+  pub asked : marks_called (entries_by (logger_caller c) b.history)
+      ≡ marks_asked (member_turns (logger_client c) (engine_calls c (logger_caller c)))
+  pub are_set : (before after : History) → (entry : BufferEntry) → b.history ≡ before ++ (logger_caller c, entry) ∷ after →
+      IsMarkSet entry ((logger_caller c, entry) ∷ past_of before)
+  pub none_sent : (before between after : History) → (start : ℕ) → (reply : Result ℕ MarkRefusal) →
+      (sender stated place : ℕ) → (event : Event) →
+      b.history ≡ before ++ (logger_caller c, Pause start reply) ∷
+      (between ++ (sender, SendInRun start stated event (Ok place)) ∷ after) →
+      HasUnpaused (entries_by (logger_caller c) between) start
+
+-- So it is in each buffer.
 abbrev pub MarksMade : ClosedSession → Type 0
-MarksMade c = (number : ℕ) → (b : ClosedBuffer) → slice_get c.buffers number ≡ Some b →
-    marks_called (entries_by (logger_caller c) b.history)
-    ≡ marks_asked (member_turns (logger_client c) (engine_calls c (logger_caller c)))
+MarksMade c = (number : ℕ) → (b : ClosedBuffer) → slice_get c.buffers number ≡ Some b → MarksIn c b
 
 abbrev pub EndsMark : Type 0
 EndsMark = (c : ClosedSession) → MembersAtEnd c → MarksMade c

@@ -57,6 +57,7 @@ closed_session opened lists slots first files r = record {
   engine = history_of r.engine;
   opened = opened;
   database = history_of r.database;
+  registered = member_names lists;
   fronts = map closed_front lists.fronts;
   slots = slots;
   analyzers = map closed_analyzer lists.analyzers;

@@ -16,17 +16,20 @@ use Rattle.member_model.specs.TurnCalls.{member_turns}
 use Rattle.front_ends.specs.declared.front_run.FrontRun.{FrontRun}
 use Rattle.loggers.specs.declared.logged_run.LoggedRun.{LoggedRun}
 use Rattle.loggers.specs.declared.logged_run.RunDumps.{RunDumps}
-use Rattle.loggers.specs.NewLoggers.{NoneTakenBack}
+use Rattle.loggers.specs.NewLoggers.{GiveEachOnce}
 use Rattle.loggers.specs.LoggerStands.{LoggerStands}
 use Rattle.loggers.specs.OtherFiles.{specs_in, KeepsOtherFiles}
-use Rattle.session_runs.specs.Members.{registrations}
+use Rattle.session_runs.specs.declared.opening.MemberName.{MemberName}
+use Rattle.session_runs.specs.Members.{member_in, registrations, reporter_count}
+use Rattle.transitions.specs.declared.sequences.Role.TheVariants.{FrontEnd, Logger, Analyzer}
+use Rattle.mid_logger.specs.ChannelTurns.{logger_name}
 use Rattle.session_runs.specs.RunsFit.{SteersEngine}
 use Rattle.daq_members.specs.OwnTurns.{are_calls_for}
 use Rattle.daq_members.specs.StartedRuns.{started_runs}
 use Rattle.daq_members.specs.FrontTaken.{FrontMemberStands}
 use Rattle.analyzers.specs.Analyzers.{AnalyzerState}
 use Rattle.daq_members.specs.AnalyzerTaken.{AnalyzerMemberStands}
-use Rattle.session_laws.specs.ClosedSessions.{ClosedAnalyzer, ClosedBuffer, ClosedFront, ClosedSession, logger_client, logger_caller, analyzer_client, last_caller, registered_members, engine_calls, calls_on_buffer, calls_on_database, got_from_buffer}
+use Rattle.session_laws.specs.ClosedSessions.{ClosedAnalyzer, ClosedBuffer, ClosedFront, ClosedSession, logger_client, logger_caller, analyzer_client, last_caller, engine_calls, calls_on_buffer, calls_on_database, got_from_buffer}
 
 -- The front-end with this client number, with these moments of its turns: it keeps its contract over its calls on the engine, on its
 -- buffer and on the database; and it called on no other buffer.
@@ -44,9 +47,8 @@ pub record IsAccessTo (caller : ℕ) (b : ClosedBuffer) (a : Access) : Type 0 wh
   pub got : a.got ≡ given_in caller (opening b.size) seen
   pub known : a.taken_back ≡ taken_back_in caller 0 seen
 
--- The logger has a port to each buffer. Where no client of it is known to be detached by another, it keeps its contract over its
--- calls on the engine, what its ports told it, and the run files; and it left all files but those of its channels in the runs that
--- it was told to start.
+-- The logger has a port to each buffer. Where these gave it no client that it has, it keeps its contract over its calls on the engine,
+-- what its ports told it, and the run files; and it left all files but those of its channels in the runs that it was told to start.
 pub record LoggerAtEnd (c : ClosedSession) : Type 0 where
   pub run : Option LoggedRun
   pub dumps : RunDumps
@@ -54,9 +56,9 @@ pub record LoggerAtEnd (c : ClosedSession) : Type 0 where
   pub many : length ports ≡ length c.buffers
   pub access : (buffer : ℕ) → (a : Access) → (b : ClosedBuffer) → slice_get ports buffer ≡ Some a →
       slice_get c.buffers buffer ≡ Some b → IsAccessTo (logger_caller c) b a
-  pub stands : NoneTakenBack ports →
+  pub stands : GiveEachOnce ports →
       LoggerStands run dumps c.slots ports (member_turns (logger_client c) (engine_calls c (logger_caller c))) c.files
-  pub others : NoneTakenBack ports →
+  pub others : GiveEachOnce ports →
       KeepsOtherFiles (specs_in c.slots) (started_runs (member_turns (logger_client c) (engine_calls c (logger_caller c))))
       c.first_files c.files
 
@@ -69,10 +71,22 @@ pub record AnalyzerAtEnd (c : ClosedSession) (client : ℕ) (a : ClosedAnalyzer)
       (calls_on_buffer c (caller_of_client client) a.buffer) (got_from_buffer c (caller_of_client client) a.buffer)
   pub elsewhere : (buffer : ℕ) → buffer ≢ a.buffer → calls_on_buffer c (caller_of_client client) buffer ≡ []
 
+-- Each front-end, the logger and each analyzer is registered by its name at its client number, and no other member as the logger;
+-- and as many count in reports as there are analyzers.
+pub record NamesMembers (c : ClosedSession) : Type 0 where
+  pub fronts : (client : ℕ) → (f : ClosedFront) → slice_get c.fronts client ≡ Some f →
+      slice_get c.registered client ≡ Some (member_in FrontEnd f.name)
+  pub logger : slice_get c.registered (logger_client c) ≡ Some (member_in Logger logger_name)
+  pub analyzers : (place : ℕ) → (a : ClosedAnalyzer) → slice_get c.analyzers place ≡ Some a →
+      slice_get c.registered (analyzer_client c place) ≡ Some (member_in Analyzer a.name)
+  pub one_logger : (client : ℕ) → (m : MemberName) → slice_get c.registered client ≡ Some m → m.role ≡ Logger →
+      client ≡ logger_client c
+  pub reporters : reporter_count c.registered ≡ length c.analyzers
+
 -- The main thread: on the engine it registered the members, and then made and ended transitions; and it called on no buffer.
 pub record MainAtEnd (c : ClosedSession) : Type 0 where
   pub later : List EngineEntry
-  pub calls : engine_calls c main_caller ≡ registrations 0 (registered_members c) ++ later
+  pub calls : engine_calls c main_caller ≡ registrations 0 c.registered ++ later
   pub steers : AllByRecursion SteersEngine later
   pub buffers : (buffer : ℕ) → calls_on_buffer c main_caller buffer ≡ []
 
@@ -97,5 +111,6 @@ pub record MembersAtEnd (c : ClosedSession) : Type 0 where
   pub analyzers : (place : ℕ) → (a : ClosedAnalyzer) → slice_get c.analyzers place ≡ Some a →
       AnalyzerAtEnd c (analyzer_client c place) a
   pub few_analyzers : length c.analyzers ≤ 8
+  pub named : NamesMembers c
   pub main : MainAtEnd c
   pub others : NoOthers c

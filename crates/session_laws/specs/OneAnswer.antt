@@ -1,6 +1,6 @@
 -- One fault gives one answer: what the records of a closed session's starts tell of faults and of clashes of names was each
 -- counted for itself. And none is counted without an answer: a count rose only where one of the records tells why.
-use Rattle.std.specs.Prelude.{◌≡◌, ◌≤◌, ◌+◌, ℕ, sum_by, List, [], ◌++◌, slice_get, Option, Some, None}
+use Rattle.std.specs.Prelude.{◌≡◌, ◌≢◌, ◌≤◌, ◌+◌, ℕ, sum_by, List, [], ◌++◌, slice_get, Option, Some, None, ◌⊎◌}
 use Rattle.daq_types.specs.Callers.{main_caller}
 use Rattle.daq_types.specs.declared.runs.ChannelState.TheVariants.{Broken}
 use Rattle.daq_types.specs.declared.runs.StartOutcome.{StartOutcome}
@@ -8,6 +8,7 @@ use Rattle.daq_types.specs.declared.runs.StartOutcome.TheVariants.{Completed, Re
 use Rattle.daq_types.specs.declared.runs.Why.TheVariants.{Exists}
 use Rattle.daq_io.specs.Counts.{RoseBy}
 use Rattle.daq_io.specs.Told.{FilesTold}
+use Rattle.buffer_core.specs.Slots.{slot_at}
 use Rattle.member_model.specs.RunEngines.{EngineEntry}
 use Rattle.mid_logger.specs.declared.channel_spec.ChannelSpec.{ChannelSpec}
 use Rattle.loggers.specs.OtherFiles.{specs_in}
@@ -71,15 +72,28 @@ pub record HasBrokenFile (runs : List RunRecord) (name : List ℕ) : Type 0 wher
   pub few : sub ≤ files.told.files
   pub is : piece_name_by files.pattern run.run sub ≡ name
 
+-- One of these records is of a start that was refused, and one of these channels gives the name to a file of its run.
+pub record HasRefusedFile (specs : List (Option ChannelSpec)) (runs : List RunRecord) (name : List ℕ) : Type 0 where
+  pub number : ℕ
+  pub run : RunRecord
+  pub at : slice_get runs number ≡ Some run
+  pub refused : run.outcome ≢ Completed
+  pub place : ℕ
+  pub spec : ChannelSpec
+  pub there : slot_at specs place ≡ Some spec
+  pub sub : ℕ
+  pub is : piece_name_by spec.pattern run.run sub ≡ name
+
 -- Where the run files of a logger with these channels were so at first, and are so now, each rise of a count is told. No clash was
 -- counted where no record tells of one, and no channel has a limit: one with a limit may find the name of a next file taken. And no
 -- fault was counted where no start was refused, and no channel broke off: a start that is refused is undone, and what fails then is
--- not told. Where no start was refused, and no fault was named at first, the file of the first fault is that of a channel which is
--- called Broken.
+-- not told. Where no fault was named at first, the file of the first fault is that of a channel which is called Broken, or of a run
+-- whose start was refused.
 pub record RisesTold (specs : List (Option ChannelSpec)) (runs : List RunRecord) (first now : FilesTold) : Type 0 where
   pub clashes : HaveNoLimit specs → sum_by clashes_recorded runs ≡ 0 → now.clashes ≡ first.clashes
   pub faults : NoneRefused runs → sum_by faults_recorded runs ≡ 0 → now.faults ≡ first.faults
-  pub named : NoneRefused runs → first.first ≡ None → (name : List ℕ) → now.first ≡ Some name → HasBrokenFile runs name
+  pub named : first.first ≡ None → (name : List ℕ) → now.first ≡ Some name →
+      HasBrokenFile runs name ⊎ HasRefusedFile specs runs name
 
 -- So it is with a closed session, where there is one record for each start that the main thread began, and they fit its calls.
 abbrev pub RisesToldEach : Type 0

@@ -22,6 +22,7 @@ pub fn members_keep()
     ensures { EndsKeep }
 {
     callers::port_tells();
+    callers::gives_once();
     buffers::got_all();
     loggers_laws::logger_keeps();
     members::front_keeps();
@@ -64,14 +65,20 @@ pub fn other_names_stay()
     ensures { OtherNamesStay }
 {
     turns::turns_begun();
+    callers::gives_once();
 }
 
 /// In each buffer the logger called for a mark of each pause and each resume of the runs whose starts it accepted, in order, and for no
-/// others, whatever these calls were replied.
+/// others. Whatever these calls were replied, the run was paused there behind each pause, and not behind a resume; and no event of it
+/// was accepted behind a pause before the logger resumed or ended it.
 pub fn marks_end()
     ensures { EndsMark }
 {
     turns::gives_turns();
+    callers::gives_once();
+    callers::keeps_pauses();
+    callers::ends_runs();
+    members_keep();
 }
 
 /// A closed session holds all that, of each run that the main thread made, of its run files and of the marks in its buffers.
@@ -114,6 +121,7 @@ pub fn counts_tell()
     callers::refuses_for_cause();
     callers::fits_members();
     callers::ends_runs();
+    callers::gives_once();
     blanks::blanks_suffice();
     members_keep();
     ends_composed();
@@ -142,12 +150,13 @@ pub fn one_answer()
     turns::main_has_transition();
     turns::tallies_answered();
     engine::start_numbers_rise::<Report>();
+    callers::gives_once();
     counts_tell();
 }
 
 /// And none is counted without an answer: no clash, where no record tells of one and no channel has a limit; and no fault, where no
-/// start was refused and no channel broke off. Where no start was refused, the file of the first fault is one of a channel that a record
-/// calls Broken.
+/// start was refused and no channel broke off. The file of the first fault is one of a channel that a record calls Broken, or of a run
+/// whose start a record calls refused.
 pub fn rises_told()
     ensures { RisesToldEach }
 {
@@ -160,6 +169,7 @@ pub fn rises_told()
     engine::start_numbers_rise::<Report>();
     loggers_laws::names_kept();
     loggers_laws::reasons_given();
+    callers::gives_once();
     members_keep();
 }
 

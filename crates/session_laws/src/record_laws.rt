@@ -9,6 +9,7 @@ use odb_lock::{LockedDatabase, WatchedSeen};
 use odb_tree::Database;
 use odb_watch::WatchEntry;
 use session_objects::SessionRecord;
+use session_runs::laws as runs;
 use turn_lock::Machine;
 
 /// What is known of a session once its objects are closed is what the laws of closed sessions ask for: each history is legal,
@@ -19,6 +20,7 @@ where
     ensures { ClosedEndsSo F.told _kept.now }
 {
     buffers::got_all();
+    runs::members_counted();
 }
 
 /// So each run that the main thread made holds what its members told, and the files of other names are as they were.
@@ -38,6 +40,7 @@ where
     ensures { CountsSo F.told _kept.now }
 {
     buffers::got_all();
+    runs::members_counted();
     closed::counts_tell();
 }
 
@@ -93,6 +96,7 @@ where
     ensures { OneAnswerSo F.told _kept.now }
 {
     buffers::got_all();
+    runs::members_counted();
     closed::one_answer();
     closed::channels_agree();
 }
@@ -105,6 +109,7 @@ where
     ensures { RisesToldSo F.told _kept.now }
 {
     buffers::got_all();
+    runs::members_counted();
     closed::rises_told();
     closed::channels_agree();
 }

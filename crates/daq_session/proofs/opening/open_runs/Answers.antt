@@ -7,7 +7,7 @@ use Rattle.session_runs.specs.MainKnowledge.{known_from}
 use Rattle.session_runs.specs.Members.{reporter_count, sender_count}
 use Rattle.session_setup.specs.declared.declared.AnalyzerDeclared.{AnalyzerDeclared}
 use Rattle.session_setup.specs.declared.declared.FrontDeclared.{FrontDeclared}
-use Rattle.daq_session.proofs.MembersLaws.{members_few, registered}
+use Rattle.daq_session.proofs.MembersLaws.{members_few, names_listed, registered}
 use Rattle.daq_session.proofs.opening.open_runs.Goals as goal
 
 pub new-seat-requires-clause-idle : goal.new-seat-requires-clause-idle
@@ -32,7 +32,7 @@ new-requires-clause-few g c =
     let lists = c.args.lists.now in
     let fronts = map (λ (front : FrontDeclared). front.name) lists.fronts in
     let analyzers = map (λ (analyzer : AnalyzerDeclared). analyzer.name) lists.analyzers in
-    let all = ap sender_count c.in_ok-members.ensures ∙ c.members_counted.ensures.senders fronts logger_name analyzers in
+    let all = ap sender_count (c.in_ok-members.ensures ∙ names_listed lists) ∙ c.members_counted.ensures.senders fronts logger_name analyzers in
     omega (arith, c.requires.few, all, length-map lists.fronts (λ (front : FrontDeclared). front.name))
 
 pub new-requires-clause-few_reports : goal.new-requires-clause-few_reports
@@ -40,7 +40,7 @@ new-requires-clause-few_reports g c =
     let lists = c.args.lists.now in
     let fronts = map (λ (front : FrontDeclared). front.name) lists.fronts in
     let analyzers = map (λ (analyzer : AnalyzerDeclared). analyzer.name) lists.analyzers in
-    let all = ap reporter_count c.in_ok-members.ensures ∙ c.members_counted.ensures.reporters fronts logger_name analyzers in
+    let all = ap reporter_count (c.in_ok-members.ensures ∙ names_listed lists) ∙ c.members_counted.ensures.reporters fronts logger_name analyzers in
     omega (arith, c.requires.few_analyzers, all, length-map lists.analyzers (λ (analyzer : AnalyzerDeclared). analyzer.name))
 
 pub returns : goal.returns

@@ -19,6 +19,7 @@ returns c =
       calls_off = c.called_off.ensures;
       started = c.names_kept.ensures.started;
       keep = c.members_keep.ensures;
+      once = c.gives_once.ensures;
     } in
     counts_tell (record {
       main = c.main_has_transition.ensures;

@@ -9,4 +9,5 @@ returns c =
       tallies = c.tallies_answered.ensures.tallies;
       rise = c.start_numbers_rise.ensures;
       counts = c.counts_tell.ensures;
+      once = c.gives_once.ensures;
     })

@@ -19,5 +19,6 @@ returns c =
       calls_off = c.called_off.ensures;
       started = c.names_kept.ensures.started;
       keep = c.members_keep.ensures;
+      once = c.gives_once.ensures;
     } in
     rises_told (record { turns = turns; nos = c.tallies_answered.ensures.lone; names = c.reasons_given.ensures.names })
