@@ -5,3 +5,4 @@ pub mod JoinedBanks
 pub mod WaitReplies
 pub mod Faulted
 pub mod Sending
+pub mod SameCounts

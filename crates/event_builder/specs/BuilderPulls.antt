@@ -3,6 +3,7 @@ use Rattle.std.specs.Prelude.{◌≡◌, ◌≢◌, ◌≤◌, ◌<◌, ℕ, suc
 use Rattle.std.specs.List.{list_all}
 use Rattle.daq_types.specs.declared.events.Event.{Event}
 use Rattle.buffer_core.specs.declared.replies.Received.{Received}
+use Rattle.buffer_core.specs.Ports.{Access}
 use Rattle.buffer_core.specs.declared.replies.Received.TheVariants.{Got, Empty, NoClient, SmallBuf}
 use Rattle.bank_format.specs.BankAreas.{BankValue}
 use Rattle.bank_format.specs.Faults.{HoldsBanks}
@@ -15,7 +16,7 @@ use Rattle.event_builder.specs.declared.inputs.BuilderInput.{BuilderInput}
 use Rattle.event_builder.specs.declared.inputs.InputRequest.{InputRequest}
 use Rattle.event_builder.specs.Joined.{IsBuiltSize}
 use Rattle.event_builder.specs.Inputs.{InputsAt, StepsInput, ReceivesInput, is_held, last_events}
-use Rattle.event_builder.specs.Builders.{BuilderAt, EndsAfter}
+use Rattle.event_builder.specs.Builders.{BuilderState, BuilderAt, EndsAfter, at_call}
 use Rattle.event_builder.specs.BuilderTurns.{StaysBuilder}
 
 -- Faults.
@@ -32,6 +33,14 @@ IsBuildFaultOf number k e limit inputs (Some (NotBanks input j)) =
 IsBuildFaultOf number k e limit inputs (Some (TooBig j size)) =
     (j ≡ k) × (e.serial ≡ k) × (list_all is_held inputs ≡ true) × IsBuiltSize (last_events inputs) size × (limit < size)
 IsBuildFaultOf number k e limit inputs (Some (SmallRoom input need)) = ⊥
+
+-- this fault the event gives as the k-th one, whatever the other inputs hold
+abbrev pub IsFaultAlone : (number k : ℕ) → Event → BuildFault → Type 0
+IsFaultAlone number k e fault = (limit : ℕ) → (inputs : List BuilderInput) → IsBuildFaultOf number k e limit inputs (Some fault)
+
+-- each input holds an event, and the k-th built one would be too long
+abbrev pub IsTooBig : (k limit : ℕ) → List BuilderInput → BuildFault → Type 0
+IsTooBig k limit inputs fault = (size : ℕ) × (fault ≡ TooBig k size) × (list_all is_held inputs ≡ true) × IsBuiltSize (last_events inputs) size × (limit < size)
 
 -- the fault that the event gives which this input holds now
 pub record MeetsFault (number k limit : ℕ) (inputs : List BuilderInput) (fault : Option BuildFault) : Type 0 where
@@ -92,3 +101,8 @@ pub record PullsBuilder (number limit : ℕ) (a b : BuilderAt) (answer : BuildPu
   pub input : BuilderInput
   pub there : slice_get a.at.inputs number ≡ Some input
   pub pulls : PullsInput a.run input number limit a b answer
+
+-- the same of this builder, with what these ports tell
+abbrev pub PullsOver : {P : Type 0} → (access : P → Access) → (number : ℕ) → BuilderState → List P → (later : BuilderState) → List P → BuildPull → Type 0
+PullsOver access number b ports later later_ports answer =
+    PullsBuilder number b.limit (at_call access b ports) (at_call access later later_ports) answer

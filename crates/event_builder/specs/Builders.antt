@@ -1,8 +1,9 @@
 -- A builder as its calls see it, and how it comes to the end of a run.
-use Rattle.std.specs.Prelude.{◌≡◌, ◌≤◌, ◌<◌, ℕ, suc, Bool, true, false, List, length, slice_get, Option, Some, None, ⊤}
+use Rattle.std.specs.Prelude.{◌≡◌, ◌≤◌, ◌<◌, ℕ, suc, Bool, true, false, List, length, map, slice_get, Option, Some, None, ⊤}
 use Rattle.std.specs.List.{list_any, list_all}
 use Rattle.daq_types.specs.declared.events.Event.{Event}
 use Rattle.event.specs.Events.{event_limit}
+use Rattle.buffer_core.specs.Ports.{Access}
 use Rattle.bank_format.specs.declared.formats.Format.TheVariants.{Bank32A}
 use Rattle.bank_format.specs.BankAreas.{BankValue, plain_banks}
 use Rattle.bank_format.specs.Faults.{HoldsBanks}
@@ -14,7 +15,7 @@ use Rattle.event_builder.specs.declared.build_run.BuildRun.{BuildRun}
 use Rattle.event_builder.specs.declared.build_run.BuiltRun.{BuiltRun}
 use Rattle.event_builder.specs.declared.inputs.BuilderInput.{BuilderInput}
 use Rattle.event_builder.specs.Joined.{JoinsBanks}
-use Rattle.event_builder.specs.Inputs.{InputsAt, EachInput, CancelsInput, is_held, is_done, last_events}
+use Rattle.event_builder.specs.Inputs.{InputsAt, EachInput, CancelsInput, inputs_at, is_held, is_done, last_events, new_input}
 
 -- the id and the mask of the built events; how many bytes of data they have at most; the inputs, in the order of the
 -- front-ends; and the run of which events are built
@@ -32,6 +33,14 @@ pub record BuilderAt : Type 0 where
 
 abbrev pub builder_at : Option BuildRun → InputsAt → BuilderAt
 builder_at run at = record { run = run; at = at }
+
+-- the run of this builder and its inputs, with what these ports tell
+abbrev pub at_call : {P : Type 0} → (access : P → Access) → BuilderState → List P → BuilderAt
+at_call access b ports = builder_at b.run (inputs_at b.inputs (map access ports))
+
+-- a builder in no run, which never read anything
+abbrev pub new_builder : (id mask limit room : ℕ) → (fronts : List ℕ) → BuilderState
+new_builder id mask limit room fronts = record { id = id; mask = mask; limit = limit; inputs = map (new_input room) fronts; run = None }
 
 -- the run that a start with this number begins
 abbrev pub begun_run : (start : ℕ) → BuildRun
@@ -82,10 +91,14 @@ run_told run (Some built) = None
 
 -- What is true of every builder.
 
+-- the event has this serial number, and its data are a bank area
+abbrev pub IsKthEvent : (k : ℕ) → Event → Type 0
+IsKthEvent k e = (e.serial ≡ k) × ((bs : List BankValue) × HoldsBanks bs e.body)
+
 -- the event is the next one of the run, if there is one, and its data are a bank area
 abbrev pub IsNextOf : Option BuildRun → Event → Type 0
 IsNextOf None e = ⊤
-IsNextOf (Some r) e = (e.serial ≡ suc r.sent) × ((bs : List BankValue) × HoldsBanks bs e.body)
+IsNextOf (Some r) e = IsKthEvent (suc r.sent) e
 
 -- the event of each input that holds one is such
 abbrev pub HoldNext : Option BuildRun → List BuilderInput → Type 0

@@ -31,6 +31,14 @@ pub record InputsAt : Type 0 where
 abbrev pub inputs_at : List BuilderInput → List Access → InputsAt
 inputs_at inputs ports = record { inputs = inputs; ports = ports }
 
+-- such a step of this input, with what its port tells
+abbrev pub PortStep : {P : Type 0} → (access : P → Access) → (Step : InputAt → InputAt → Type 0) → BuilderInput → P → (later : BuilderInput) → P → Type 0
+PortStep access Step input port later later_port = Step (input_at input (access port)) (input_at later (access later_port))
+
+-- such a step of these inputs, with what their ports tell
+abbrev pub InputsStep : {P : Type 0} → (access : P → Access) → (Step : InputsAt → InputsAt → Type 0) → List BuilderInput → List P → (later : List BuilderInput) → List P → Type 0
+InputsStep access Step inputs ports later later_ports = Step (inputs_at inputs (map access ports)) (inputs_at later (map access later_ports))
+
 -- the input of this number and its port
 pub record IsInputAt (m : InputsAt) (number : ℕ) (x : InputAt) : Type 0 where
   pub input : slice_get m.inputs number ≡ Some x.input
@@ -44,6 +52,10 @@ pub record StepsInput (Step : InputAt → InputAt → Type 0) (number : ℕ) (a 
   pub inputs : b.inputs ≡ slice_set a.inputs number after.input
   pub ports : b.ports ≡ slice_set a.ports number after.port
   pub step : Step before after
+
+-- a step of the input of this number, with what the ports tell
+abbrev pub OneStep : {P : Type 0} → (access : P → Access) → (Step : InputAt → InputAt → Type 0) → (number : ℕ) → List BuilderInput → List P → (later : List BuilderInput) → List P → Type 0
+OneStep access Step number inputs ports later later_ports = InputsStep access (StepsInput Step number) inputs ports later later_ports
 
 -- Each input with a number below this does such a step, once, with its port; all others stay.
 pub record StepsBelow (Step : InputAt → InputAt → Type 0) (count : ℕ) (a b : InputsAt) : Type 0 where

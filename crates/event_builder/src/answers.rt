@@ -1,7 +1,7 @@
 use buffer_core::RunGate;
 
 /// What a builder got of one of its inputs.
-#[derive(Clone, Copy)]
+#[derive(Clone, Copy, PartialEq, Eq)]
 pub enum BuildPull {
     /// The event of this place, which is the next one of the run and is held.
     Took { place: u64 },
@@ -16,7 +16,7 @@ pub enum BuildPull {
 }
 
 /// What became of the event that a builder had to send.
-#[derive(Clone, Copy)]
+#[derive(Clone, Copy, PartialEq, Eq)]
 pub enum BuildStep {
     /// It was sent, and stands at this place.
     Sent { place: u64 },

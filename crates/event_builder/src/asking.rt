@@ -1,8 +1,8 @@
 //! The requests of a builder's inputs: they are made at a start, and cancelled at its end; and a stop of the run.
 
-ghost use Rattle.std.specs.Prelude.{◌≡◌, ◌≤◌, ◌<◌, ℕ, codes, length, map, OnOk, OnErr, IfErr};
-ghost use Rattle.event_builder.specs.Inputs.{GetsInputClient, AsksInput, RefusesInput, CancelsInput, StopsInput, StepsInput, StepsBelow, EachInput, InputsAt, input_at, inputs_at};
-ghost use Rattle.event_builder.specs.BuilderTurns.{RefusesAt};
+ghost use Rattle.std.specs.Prelude.{◌≡◌, ◌≤◌, ◌<◌, codes, length, OnOk, OnErr, IfErr};
+ghost use Rattle.event_builder.specs.Inputs.{GetsInputClient, AsksInput, RefusesInput, CancelsInput, StopsInput, StepsBelow, EachInput, PortStep, OneStep, InputsStep};
+ghost use Rattle.event_builder.specs.BuilderTurns.{FirstRefused, RefusesSome};
 
 use crate::inputs::{BuilderInput, InputRequest, InputStop, Inputs, Ports};
 use buffer_core::BufferPort;
@@ -39,10 +39,8 @@ fn ask_input<R: Wait, P: BufferPort>(
     input: &mut BuilderInput,
     port: &mut P,
 ) -> Result<(), NotAsked>
-    ensures asks { OnOk result (AsksInput (input_at input.old (P.access port.old))
-        (input_at input.new (P.access port.new))) }
-    ensures refuses { OnErr result (RefusesInput (input_at input.old (P.access port.old))
-        (input_at input.new (P.access port.new))) }
+    ensures asks { OnOk result (PortStep P.access AsksInput input.old port.old input.new port.new) }
+    ensures refuses { OnErr result (PortStep P.access RefusesInput input.old port.old input.new port.new) }
 {
     input.client = attached(rt, port, input.client);
     let Some(client) = input.client else {
@@ -67,12 +65,10 @@ fn ask_at<R: Wait, P: BufferPort>(
 ) -> Result<(), NotAsked>
     requires input { number < length inputs.old }
     requires port { number < length ports.old }
-    ensures asks { OnOk result (StepsInput AsksInput number
-        (inputs_at inputs.old (map P.access ports.old))
-        (inputs_at inputs.new (map P.access ports.new))) }
-    ensures refuses { OnErr result (StepsInput RefusesInput number
-        (inputs_at inputs.old (map P.access ports.old))
-        (inputs_at inputs.new (map P.access ports.new))) }
+    ensures asks { OnOk result (OneStep P.access AsksInput number
+        inputs.old ports.old inputs.new ports.new) }
+    ensures refuses { OnErr result (OneStep P.access RefusesInput number
+        inputs.old ports.old inputs.new ports.new) }
     ensures many { length ports.new ≡ length ports.old }
 {
     let Some(input) = inputs.get_mut(number) else {
@@ -86,8 +82,7 @@ fn ask_at<R: Wait, P: BufferPort>(
 
 /// Cancels the request of the input, if it lives, and lets go of what it holds.
 fn cancel_input<R: Wait, P: BufferPort>(rt: &R, input: &mut BuilderInput, port: &mut P)
-    ensures { CancelsInput (input_at input.old (P.access port.old))
-        (input_at input.new (P.access port.new)) }
+    ensures { PortStep P.access CancelsInput input.old port.old input.new port.new }
 {
     input.held = false;
     if let Some(request) = input.request.take() {
@@ -104,9 +99,8 @@ fn cancel_at<R: Wait, P: BufferPort>(
 )
     requires input { number < length inputs.old }
     requires port { number < length ports.old }
-    ensures cancels { StepsInput CancelsInput number
-        (inputs_at inputs.old (map P.access ports.old))
-        (inputs_at inputs.new (map P.access ports.new)) }
+    ensures cancels { OneStep P.access CancelsInput number
+        inputs.old ports.old inputs.new ports.new }
     ensures many { length ports.new ≡ length ports.old }
 {
     let Some(input) = inputs.get_mut(number) else {
@@ -127,9 +121,8 @@ pub fn cancel_first<R: Wait, P: BufferPort>(
 )
     requires ports { length ports.old ≡ length inputs.old }
     requires within { count ≤ length inputs.old }
-    ensures { StepsBelow CancelsInput count
-        (inputs_at inputs.old (map P.access ports.old))
-        (inputs_at inputs.new (map P.access ports.new)) }
+    ensures { InputsStep P.access (StepsBelow CancelsInput count)
+        inputs.old ports.old inputs.new ports.new }
 {
     for number in 0..count {
         cancel_at(rt, inputs, ports, number);
@@ -143,12 +136,9 @@ fn ask_first<R: Wait, P: BufferPort>(
     ports: &mut Ports<P>,
 ) -> Result<(), usize>
     requires ports { length ports.old ≡ length inputs.old }
-    ensures asks { OnOk result (EachInput AsksInput
-        (inputs_at inputs.old (map P.access ports.old))
-        (inputs_at inputs.new (map P.access ports.new))) }
-    ensures refuses { IfErr result (λ number. (asked : InputsAt) × (number < length inputs.old)
-        × StepsBelow AsksInput number (inputs_at inputs.old (map P.access ports.old)) asked
-        × StepsInput RefusesInput number asked (inputs_at inputs.new (map P.access ports.new))) }
+    ensures asks { OnOk result (InputsStep P.access (EachInput AsksInput)
+        inputs.old ports.old inputs.new ports.new) }
+    ensures refuses { IfErr result (FirstRefused P.access inputs.old ports.old inputs.new ports.new) }
     ensures inputs_many { length inputs.new ≡ length inputs.old }
     ensures ports_many { length ports.new ≡ length ports.old }
 {
@@ -168,12 +158,10 @@ pub fn ask_all<R: Wait, P: BufferPort>(
     ports: &mut Ports<P>,
 ) -> Result<(), NotAsked>
     requires ports { length ports.old ≡ length inputs.old }
-    ensures asks { OnOk result (EachInput AsksInput
-        (inputs_at inputs.old (map P.access ports.old))
-        (inputs_at inputs.new (map P.access ports.new))) }
-    ensures refuses { OnErr result ((number : ℕ) × RefusesAt number
-        (inputs_at inputs.old (map P.access ports.old))
-        (inputs_at inputs.new (map P.access ports.new))) }
+    ensures asks { OnOk result (InputsStep P.access (EachInput AsksInput)
+        inputs.old ports.old inputs.new ports.new) }
+    ensures refuses { OnErr result (InputsStep P.access RefusesSome
+        inputs.old ports.old inputs.new ports.new) }
 {
     match ask_first(rt, inputs, ports) {
         Ok(()) => Ok(()),
@@ -186,8 +174,7 @@ pub fn ask_all<R: Wait, P: BufferPort>(
 
 /// Stops the run for the input: it is to be read as far as its buffer has taken events.
 fn stop_input<R: Wait, P: BufferPort>(rt: &R, input: &mut BuilderInput, port: &mut P)
-    ensures { StopsInput (input_at input.old (P.access port.old))
-        (input_at input.new (P.access port.new)) }
+    ensures { PortStep P.access StopsInput input.old port.old input.new port.new }
 {
     if let InputStop::Open = input.stop {
         input.stop = InputStop::Stopped {
@@ -200,9 +187,8 @@ fn stop_input<R: Wait, P: BufferPort>(rt: &R, input: &mut BuilderInput, port: &m
 fn stop_at<R: Wait, P: BufferPort>(rt: &R, inputs: &mut Inputs, ports: &mut Ports<P>, number: usize)
     requires input { number < length inputs.old }
     requires port { number < length ports.old }
-    ensures stops { StepsInput StopsInput number
-        (inputs_at inputs.old (map P.access ports.old))
-        (inputs_at inputs.new (map P.access ports.new)) }
+    ensures stops { OneStep P.access StopsInput number
+        inputs.old ports.old inputs.new ports.new }
     ensures many { length ports.new ≡ length ports.old }
 {
     let Some(input) = inputs.get_mut(number) else {
@@ -217,8 +203,8 @@ fn stop_at<R: Wait, P: BufferPort>(rt: &R, inputs: &mut Inputs, ports: &mut Port
 /// Stops the run for all inputs.
 pub fn stop_all<R: Wait, P: BufferPort>(rt: &R, inputs: &mut Inputs, ports: &mut Ports<P>)
     requires ports { length ports.old ≡ length inputs.old }
-    ensures { EachInput StopsInput (inputs_at inputs.old (map P.access ports.old))
-        (inputs_at inputs.new (map P.access ports.new)) }
+    ensures { InputsStep P.access (EachInput StopsInput)
+        inputs.old ports.old inputs.new ports.new }
 {
     for number in 0..inputs.len() {
         stop_at(rt, inputs, ports, number);

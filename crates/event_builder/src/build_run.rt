@@ -1,5 +1,5 @@
 /// Why a builder could not go on.
-#[derive(Clone, Copy)]
+#[derive(Clone, Copy, PartialEq, Eq)]
 pub enum BuildFault {
     /// An event of this input has so many bytes of data, more than there is room for.
     SmallRoom { input: u32, need: u32 },
@@ -12,7 +12,7 @@ pub enum BuildFault {
 }
 
 /// How a builder came to the end of a run.
-#[derive(Clone, Copy)]
+#[derive(Clone, Copy, PartialEq, Eq)]
 pub enum BuiltEnd {
     /// All events of one of its inputs were built with.
     All,
@@ -38,7 +38,7 @@ pub struct BuildRun {
 }
 
 /// What a builder tells of a run when that is stopped.
-#[derive(Clone, Copy)]
+#[derive(Clone, Copy, PartialEq, Eq)]
 pub struct BuiltRun {
     /// How many built events were sent.
     pub sent: u64,

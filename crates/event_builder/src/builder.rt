@@ -1,12 +1,13 @@
 ghost use Rattle.std.specs.Prelude.{◌≡◌, ◌≤◌, ◌<◌, length, map, IfOk, None, Some};
 ghost use Rattle.event.specs.Events.{event_limit, slot_of_length};
+ghost use Rattle.daq_types.specs.declared.runs.Transition.TheVariants.{Stop};
 ghost use Rattle.transitions.specs.declared.answers.Answer.TheVariants.{Yes};
 ghost use Rattle.transitions.specs.declared.answers.Tally.TheVariants.{Plain};
-ghost use Rattle.event_builder.specs.Inputs.{EachInput, CancelsInput, inputs_at, new_input as an_input};
-ghost use Rattle.event_builder.specs.Builders.{built_answer, run_told, fault_in as the_fault_in, builder_at};
-ghost use Rattle.event_builder.specs.BuilderTurns.{TurnsBuilder, StartsBuilder, StopsBuilder, StopsRun};
-ghost use Rattle.event_builder.specs.BuilderPulls.{PullsBuilder, pull_answer};
-ghost use Rattle.event_builder.specs.BuilderSends.{StepsBuilder};
+ghost use Rattle.event_builder.specs.Inputs.{EachInput, InputsStep, CancelsInput, new_input as an_input};
+ghost use Rattle.event_builder.specs.Builders.{built_answer, run_told, fault_in as the_fault_in, at_call, new_builder};
+ghost use Rattle.event_builder.specs.BuilderTurns.{TurnsOver, StartsBuilder, StopsRun};
+ghost use Rattle.event_builder.specs.BuilderPulls.{PullsOver, pull_answer};
+ghost use Rattle.event_builder.specs.BuilderSends.{StepsOver};
 
 use crate::answers::{BuildPull, BuildStep};
 use crate::asking::{NotAsked, ask_all, stop_all};
@@ -154,13 +155,7 @@ impl Builder {
         requires id_free { spec.id < 32768 }
         requires least { 8 ≤ spec.limit }
         requires most { spec.limit ≤ event_limit }
-        ensures made { IfOk result (λ builder. builder ≡ record {
-          id = spec.id;
-          mask = spec.mask;
-          limit = spec.limit;
-          inputs = map (an_input spec.room) spec.fronts;
-          run = None;
-        }) }
+        ensures made { IfOk result (λ builder. builder ≡ new_builder spec.id spec.mask spec.limit spec.room spec.fronts) }
     {
         let count = spec.fronts.len();
         let inputs = new_inputs(alloc, spec.room, &spec.fronts, count)?;
@@ -184,9 +179,8 @@ impl Builder {
     ) -> Answer
         requires ports { length ports.old ≡ length self.old.inputs }
         ensures same { self.new ≡ record self.old { inputs = self.new.inputs; run = self.new.run } }
-        ensures starts { StartsBuilder start
-            (builder_at self.old.run (inputs_at self.old.inputs (map P.access ports.old)))
-            (builder_at self.new.run (inputs_at self.new.inputs (map P.access ports.new))) result }
+        ensures asks { StartsBuilder start (at_call P.access self.old ports.old)
+            (at_call P.access self.new ports.new) result }
     {
         cancel_all(rt, &mut self.inputs, ports);
         match ask_all(rt, &mut self.inputs, ports) {
@@ -217,9 +211,8 @@ impl Builder {
         requires ports { length ports.old ≡ length self.old.inputs }
         requires run { self.old.run ≡ Some run }
         ensures same { self.new ≡ record self.old { inputs = self.new.inputs; run = self.new.run } }
-        ensures stops { StopsRun run.ended from run
-            (builder_at self.old.run (inputs_at self.old.inputs (map P.access ports.old)))
-            (builder_at self.new.run (inputs_at self.new.inputs (map P.access ports.new))) }
+        ensures stop { StopsRun run.ended from run (at_call P.access self.old ports.old)
+            (at_call P.access self.new ports.new) }
     {
         let stopped = BuildRun {
             stopped: true,
@@ -247,9 +240,8 @@ impl Builder {
     ) -> Option<Answer>
         requires ports { length ports.old ≡ length self.old.inputs }
         ensures same { self.new ≡ record self.old { inputs = self.new.inputs; run = self.new.run } }
-        ensures stops { StopsBuilder self.old.run order.now
-            (builder_at self.old.run (inputs_at self.old.inputs (map P.access ports.old)))
-            (builder_at self.new.run (inputs_at self.new.inputs (map P.access ports.new))) result }
+        ensures stops { TurnsOver P.access Stop order.now
+            self.old ports.old self.new ports.new result }
     {
         match self.run {
             Some(run) if run.start == order.start => {
@@ -264,12 +256,35 @@ impl Builder {
     fn drop_run<R: Wait, P: BufferPort>(&mut self, rt: &R, ports: &mut Ports<P>)
         requires ports { length ports.old ≡ length self.old.inputs }
         ensures same { self.new ≡ record self.old { inputs = self.new.inputs; run = None } }
-        ensures cancels { EachInput CancelsInput
-            (inputs_at self.old.inputs (map P.access ports.old))
-            (inputs_at self.new.inputs (map P.access ports.new)) }
+        ensures cancels { InputsStep P.access (EachInput CancelsInput)
+            self.old.inputs ports.old self.new.inputs ports.new }
     {
         cancel_all(rt, &mut self.inputs, ports);
         self.run = None;
+    }
+
+    /// Takes a turn.
+    fn take_turn<R: Wait, P: BufferPort>(
+        &mut self,
+        rt: &R,
+        ports: &mut Ports<P>,
+        transition: Transition,
+        order: &Order,
+    ) -> Option<Answer>
+        requires ports { length ports.old ≡ length self.old.inputs }
+        ensures same { self.new ≡ record self.old { inputs = self.new.inputs; run = self.new.run } }
+        ensures turns { TurnsOver P.access transition order.now
+            self.old ports.old self.new ports.new result }
+    {
+        match transition {
+            Transition::Start => Some(self.take_start(rt, ports, order.start)),
+            Transition::Stop => self.take_stop(rt, ports, order),
+            Transition::Pause | Transition::Resume => Some(plain()),
+            Transition::StartAbort => {
+                self.drop_run(rt, ports);
+                Some(plain())
+            }
+        }
     }
 
     /// Takes a turn. A start drops a run that is still there, and makes one request an input, for all events of its
@@ -285,23 +300,16 @@ impl Builder {
     ) -> Option<Answer>
         requires ports { length ports.old ≡ length self.old.inputs }
         ensures same { self.new ≡ record self.old { inputs = self.new.inputs; run = self.new.run } }
-        ensures turns { TurnsBuilder transition order.now
-            (builder_at self.old.run (inputs_at self.old.inputs (map P.access ports.old)))
-            (builder_at self.new.run (inputs_at self.new.inputs (map P.access ports.new))) result }
+        ensures turns { TurnsOver P.access transition order.now
+            self.old ports.old self.new ports.new result }
+        ensures inputs { length self.new.inputs ≡ length self.old.inputs }
+        ensures ports { length ports.new ≡ length ports.old }
     {
-        match transition {
-            Transition::Start => Some(self.take_start(rt, ports, order.start)),
-            Transition::Stop => self.take_stop(rt, ports, order),
-            Transition::Pause | Transition::Resume => Some(plain()),
-            Transition::StartAbort => {
-                self.drop_run(rt, ports);
-                Some(plain())
-            }
-        }
+        self.take_turn(rt, ports, transition, order)
     }
 
-    /// Receives once on this input, where it is read and no event of it is held.
-    pub fn pull<R: Wait, P: BufferPort>(
+    /// Pulls once.
+    fn pull_once<R: Wait, P: BufferPort>(
         &mut self,
         rt: &R,
         ports: &mut Ports<P>,
@@ -310,9 +318,8 @@ impl Builder {
         requires ports { length ports.old ≡ length self.old.inputs }
         requires input { input < length self.old.inputs }
         ensures same { self.new ≡ record self.old { inputs = self.new.inputs; run = self.new.run } }
-        ensures pulls { PullsBuilder input self.old.limit
-            (builder_at self.old.run (inputs_at self.old.inputs (map P.access ports.old)))
-            (builder_at self.new.run (inputs_at self.new.inputs (map P.access ports.new))) result }
+        ensures pulls { PullsOver P.access input
+            self.old ports.old self.new ports.new result }
     {
         let Some(run) = self.run else {
             return BuildPull::Nothing;
@@ -343,8 +350,26 @@ impl Builder {
         answer_of(run.start, reply, fault)
     }
 
-    /// Sends the event built of those that are held, where each input holds one.
-    pub fn step<R: Wait, P: BufferPort, Q: BufferPort>(
+    /// Receives once on this input, where it is read and no event of it is held.
+    pub fn pull<R: Wait, P: BufferPort>(
+        &mut self,
+        rt: &R,
+        ports: &mut Ports<P>,
+        input: u32,
+    ) -> BuildPull
+        requires ports { length ports.old ≡ length self.old.inputs }
+        requires input { input < length self.old.inputs }
+        ensures same { self.new ≡ record self.old { inputs = self.new.inputs; run = self.new.run } }
+        ensures pulls { PullsOver P.access input
+            self.old ports.old self.new ports.new result }
+        ensures inputs { length self.new.inputs ≡ length self.old.inputs }
+        ensures ports { length ports.new ≡ length ports.old }
+    {
+        self.pull_once(rt, ports, input)
+    }
+
+    /// Sends once.
+    fn step_once<R: Wait, P: BufferPort, Q: BufferPort>(
         &mut self,
         rt: &R,
         ports: &mut Ports<P>,
@@ -353,10 +378,8 @@ impl Builder {
         requires ports { length ports.old ≡ length self.old.inputs }
         requires size { slot_of_length self.old.limit ≤ (Q.access output.old).size }
         ensures same { self.new ≡ record self.old { inputs = self.new.inputs; run = self.new.run } }
-        ensures steps { StepsBuilder self.old.run self.old.id self.old.mask
-            (Q.access output.old) (Q.access output.new)
-            (builder_at self.old.run (inputs_at self.old.inputs (map P.access ports.old)))
-            (builder_at self.new.run (inputs_at self.new.inputs (map P.access ports.new))) result }
+        ensures steps { StepsOver P.access Q.access self.old ports.old output.old
+            self.new ports.new output.new result }
     {
         let Some(run) = self.run else {
             return BuildStep::NoWork;
@@ -377,6 +400,25 @@ impl Builder {
         let (later, answer) = end_send(rt, &mut self.inputs, ports, run, reply);
         self.run = Some(later);
         answer
+    }
+
+    /// Sends the event built of those that are held, where each input holds one.
+    pub fn step<R: Wait, P: BufferPort, Q: BufferPort>(
+        &mut self,
+        rt: &R,
+        ports: &mut Ports<P>,
+        output: &mut Q,
+    ) -> BuildStep
+        requires ports { length ports.old ≡ length self.old.inputs }
+        requires size { slot_of_length self.old.limit ≤ (Q.access output.old).size }
+        ensures same { self.new ≡ record self.old { inputs = self.new.inputs; run = self.new.run } }
+        ensures steps { StepsOver P.access Q.access self.old ports.old output.old
+            self.new ports.new output.new result }
+        ensures inputs { length self.new.inputs ≡ length self.old.inputs }
+        ensures ports { length ports.new ≡ length ports.old }
+        ensures output { (Q.access output.new).size ≡ (Q.access output.old).size }
+    {
+        self.step_once(rt, ports, output)
     }
 
     /// What is told of the run, as the answer to the stop that waits, once the run has ended. None exactly where no stop

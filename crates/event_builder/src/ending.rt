@@ -1,11 +1,10 @@
 //! The end of a run: no input of the builder is read any more.
 
-ghost use Rattle.std.specs.Prelude.{◌≡◌, ◌<◌, ◌+◌, ◌^◌, length, map, slice_get, slice_set, Some};
+ghost use Rattle.std.specs.Prelude.{◌≡◌, ◌<◌, ◌+◌, ◌^◌, length, map, Some};
 ghost use Rattle.std.specs.List.{list_any};
-ghost use Rattle.event_builder.specs.declared.inputs.BuilderInput.{BuilderInput as an_input};
-ghost use Rattle.event_builder.specs.Inputs.{CancelsInput, EachInput, inputs_at, is_done as is_input_done, is_drained as is_stop_drained, let_go};
-ghost use Rattle.event_builder.specs.Builders.{EndsRun, EndsIfDone, EndsAfter, builder_at};
-ghost use Rattle.event_builder.specs.BuilderSends.{SendsBy, IsWaitReply};
+ghost use Rattle.event_builder.specs.Inputs.{CancelsInput, EachInput, InputsStep, is_done as is_input_done, is_drained as is_stop_drained, let_go};
+ghost use Rattle.event_builder.specs.Builders.{EndsRun, EndsIfDone, EndsAfter};
+ghost use Rattle.event_builder.specs.BuilderSends.{LetsGoAt, EndsSend, IsWaitReply};
 
 use crate::answers::BuildStep;
 use crate::asking::cancel_first;
@@ -33,8 +32,8 @@ fn is_done(inputs: &[BuilderInput]) -> bool
 /// Cancels the requests of all inputs that live, and lets go of what they hold.
 pub fn cancel_all<R: Wait, P: BufferPort>(rt: &R, inputs: &mut Inputs, ports: &mut Ports<P>)
     requires ports { length ports.old ≡ length inputs.old }
-    ensures { EachInput CancelsInput (inputs_at inputs.old (map P.access ports.old))
-        (inputs_at inputs.new (map P.access ports.new)) }
+    ensures { InputsStep P.access (EachInput CancelsInput)
+        inputs.old ports.old inputs.new ports.new }
 {
     let count = inputs.len();
     cancel_first(rt, inputs, ports, count);
@@ -49,9 +48,8 @@ pub fn end_run<R: Wait, P: BufferPort>(
     ended: BuiltEnd,
 ) -> BuildRun
     requires ports { length ports.old ≡ length inputs.old }
-    ensures { EndsRun ended run (Some result)
-        (inputs_at inputs.old (map P.access ports.old))
-        (inputs_at inputs.new (map P.access ports.new)) }
+    ensures { InputsStep P.access (EndsRun ended run (Some result))
+        inputs.old ports.old inputs.new ports.new }
 {
     cancel_all(rt, inputs, ports);
     BuildRun {
@@ -68,9 +66,8 @@ fn end_if_done<R: Wait, P: BufferPort>(
     run: BuildRun,
 ) -> BuildRun
     requires ports { length ports.old ≡ length inputs.old }
-    ensures { EndsIfDone run (Some result)
-        (inputs_at inputs.old (map P.access ports.old))
-        (inputs_at inputs.new (map P.access ports.new)) }
+    ensures { InputsStep P.access (EndsIfDone run (Some result))
+        inputs.old ports.old inputs.new ports.new }
 {
     if is_done(inputs.as_slice()) {
         end_run(rt, inputs, ports, run, BuiltEnd::All)
@@ -88,9 +85,8 @@ pub fn end_by<R: Wait, P: BufferPort>(
     fault: Option<BuildFault>,
 ) -> BuildRun
     requires ports { length ports.old ≡ length inputs.old }
-    ensures { EndsAfter fault run (Some result)
-        (inputs_at inputs.old (map P.access ports.old))
-        (inputs_at inputs.new (map P.access ports.new)) }
+    ensures { InputsStep P.access (EndsAfter fault run (Some result))
+        inputs.old ports.old inputs.new ports.new }
 {
     match fault {
         Some(fault) => end_run(rt, inputs, ports, run, BuiltEnd::Fault(fault)),
@@ -101,8 +97,7 @@ pub fn end_by<R: Wait, P: BufferPort>(
 /// Lets go of the event that the input of this number holds.
 fn let_go_at(inputs: &mut Inputs, number: usize)
     requires { number < length inputs.old }
-    ensures { (x : an_input) × (slice_get inputs.old number ≡ Some x)
-        × (inputs.new ≡ slice_set inputs.old number (let_go x)) }
+    ensures { LetsGoAt number inputs.old inputs.new }
 {
     let Some(input) = inputs.get_mut(number) else {
         unreachable!()
@@ -130,9 +125,8 @@ pub fn end_send<R: Wait, P: BufferPort>(
     requires ports { length ports.old ≡ length inputs.old }
     requires below { run.sent + 1 < 2 ^ 32 }
     requires reply { IsWaitReply reply }
-    ensures { SendsBy reply run
-        (builder_at (Some run) (inputs_at inputs.old (map P.access ports.old)))
-        (builder_at (Some result.0) (inputs_at inputs.new (map P.access ports.new))) result.1 }
+    ensures { InputsStep P.access (EndsSend reply run result)
+        inputs.old ports.old inputs.new ports.new }
 {
     match reply {
         Ok(place) => {

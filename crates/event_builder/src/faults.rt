@@ -1,16 +1,13 @@
 //! Faults of the events that a builder gets.
 
-ghost use Rattle.std.specs.Prelude.{◌≡◌, ◌≤◌, ◌<◌, ℕ, true, List, length, slice_get, IfNone, IfSome, Some};
+ghost use Rattle.std.specs.Prelude.{◌≡◌, ◌≤◌, ◌<◌, true, length, slice_get, IfNone, IfSome, Some};
 ghost use Rattle.std.specs.List.{list_all};
 ghost use Rattle.bank_format.specs.declared.formats.Format.TheVariants.{Bank32A};
-ghost use Rattle.bank_format.specs.BankAreas.{BankValue};
-ghost use Rattle.bank_format.specs.Faults.{HoldsBanks};
 ghost use Rattle.event_builder.specs.declared.inputs.BuilderInput.{BuilderInput as an_input};
-ghost use Rattle.event_builder.specs.declared.build_run.BuildFault.TheVariants.{TooBig};
-ghost use Rattle.event_builder.specs.Joined.{JoinsBanks, IsBuiltSize};
+ghost use Rattle.event_builder.specs.Joined.{CanJoin};
 ghost use Rattle.event_builder.specs.Inputs.{is_held, is_of_run, last_events};
-ghost use Rattle.event_builder.specs.Builders.{IsJoined};
-ghost use Rattle.event_builder.specs.BuilderPulls.{IsBuildFaultOf, MeetsFault, FaultsReply, HoldBanksBut};
+ghost use Rattle.event_builder.specs.Builders.{IsKthEvent, IsJoined};
+ghost use Rattle.event_builder.specs.BuilderPulls.{IsFaultAlone, IsTooBig, MeetsFault, FaultsReply, HoldBanksBut};
 
 use crate::build_run::BuildFault;
 use crate::inputs::BuilderInput;
@@ -29,10 +26,8 @@ pub fn are_held(inputs: &[BuilderInput]) -> bool
 
 /// The fault of this event as the k-th one of this input, by itself.
 fn fault_alone(event: &EventBuf, input: u32, k: u64) -> Option<BuildFault>
-    ensures none { IfNone result ((event.now.event.serial ≡ k)
-        × ((bs : List BankValue) × HoldsBanks bs event.now.event.body)) }
-    ensures fault { IfSome result (λ fault. (limit : ℕ) → (inputs : List an_input) →
-        IsBuildFaultOf input k event.now.event limit inputs (Some fault)) }
+    ensures none { IfNone result (IsKthEvent k event.now.event) }
+    ensures fault { IfSome result (IsFaultAlone input k event.now.event) }
 {
     let have = event.header().serial_number;
     if u64::from(have) != k {
@@ -54,13 +49,10 @@ fn join_held(
     requires few { length inputs.now ≤ 8 }
     requires format { body.old.format ≡ Bank32A }
     requires limit { body.old.limit ≡ limit }
-    requires joins { list_all is_held inputs.now ≡ true →
-        (banks : List BankValue) × JoinsBanks (last_events inputs.now) banks }
+    requires joins { list_all is_held inputs.now ≡ true → CanJoin (last_events inputs.now) }
     ensures none { IfNone result (list_all is_held inputs.now ≡ true →
         IsJoined inputs.now limit body.new) }
-    ensures too_big { IfSome result (λ fault. (size : ℕ) × (fault ≡ TooBig k size)
-        × (list_all is_held inputs.now ≡ true) × IsBuiltSize (last_events inputs.now) size
-        × (limit < size)) }
+    ensures too_big { IfSome result (IsTooBig k limit inputs.now) }
     ensures format { body.new.format ≡ Bank32A }
     ensures limit { body.new.limit ≡ limit }
 {

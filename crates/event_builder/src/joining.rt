@@ -5,7 +5,7 @@ ghost use Rattle.bank_format.specs.declared.formats.Format.TheVariants.{Bank32A}
 ghost use Rattle.bank_format.specs.Formats.{padded};
 ghost use Rattle.bank_format.specs.BankAreas.{BankValue, plain_area, plain_banks};
 ghost use Rattle.bank_format.specs.Faults.{HoldsBanks};
-ghost use Rattle.event_builder.specs.Joined.{JoinsBanks, IsBuiltSize};
+ghost use Rattle.event_builder.specs.Joined.{JoinsBanks, JoinsWithin, CanJoin, IsBanksLen, IsBuiltSize};
 ghost use Rattle.event_builder.specs.Inputs.{last_events};
 
 use crate::inputs::BuilderInput;
@@ -34,8 +34,7 @@ fn banks_len(mut banks: Banks) -> u64
 /// How many bytes the banks of an event make, written so; None where its data are no bank area.
 pub fn event_len(event: &EventBuf) -> Option<u64>
     ensures holds { IfSome result (λ len. (bs : List BankValue) × HoldsBanks bs event.now.event.body) }
-    ensures len { IfSome result (λ len. (bs : List BankValue) → HoldsBanks bs event.now.event.body
-        → len ≡ length (plain_area Bank32A bs)) }
+    ensures len { IfSome result (IsBanksLen event.now.event.body) }
     ensures small { IfSome result (λ len. len ≤ 2 ^ 34) }
     ensures none { IfNone result ((bs : List BankValue) → HoldsBanks bs event.now.event.body → ⊥) }
 {
@@ -48,7 +47,7 @@ pub fn event_len(event: &EventBuf) -> Option<u64>
 /// How many bytes of data the event has that is built of those of these inputs.
 pub fn built_size(inputs: &[BuilderInput]) -> u64
     requires few { length inputs.now ≤ 8 }
-    requires joins { (banks : List BankValue) × JoinsBanks (last_events inputs.now) banks }
+    requires joins { CanJoin (last_events inputs.now) }
     ensures { IsBuiltSize (last_events inputs.now) result }
 {
     let mut size = 8;
@@ -77,8 +76,7 @@ fn add_banks(body: &mut BankWriter, mut banks: Banks)
 /// Writes the data of the event that is built of those of these inputs.
 pub fn join(inputs: &[BuilderInput], body: &mut BankWriter)
     requires format { body.old.format ≡ Bank32A }
-    requires joins { (banks : List BankValue) × JoinsBanks (last_events inputs.now) banks
-        × (length (plain_banks Bank32A banks) ≤ body.old.limit) }
+    requires joins { JoinsWithin (last_events inputs.now) body.old.limit }
     ensures format { body.new.format ≡ Bank32A }
     ensures limit { body.new.limit ≡ body.old.limit }
     ensures joins { JoinsBanks (last_events inputs.now) body.new.banks }

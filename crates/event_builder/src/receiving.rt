@@ -1,7 +1,7 @@
 //! One receive on one input of a builder.
 
-ghost use Rattle.std.specs.Prelude.{◌≡◌, ◌<◌, length, map, Some};
-ghost use Rattle.event_builder.specs.Inputs.{ReceivesInput, StepsInput, drains as drains_at, is_of_run, stop_behind, input_at, inputs_at};
+ghost use Rattle.std.specs.Prelude.{◌≡◌, ◌<◌, length, Some};
+ghost use Rattle.event_builder.specs.Inputs.{ReceivesInput, PortStep, OneStep, drains as drains_at, is_of_run, stop_behind};
 
 use crate::inputs::{BuilderInput, InputRequest, InputStop, Inputs, Ports};
 use buffer_core::{BufferPort, Received};
@@ -48,8 +48,7 @@ fn receive_input<R: Wait, P: BufferPort>(
     request: InputRequest,
     start: u32,
 ) -> Received
-    ensures { ReceivesInput start request result (input_at input.old (P.access port.old))
-        (input_at input.new (P.access port.new)) }
+    ensures { PortStep P.access (ReceivesInput start request result) input.old port.old input.new port.new }
 {
     let reply = port.receive(rt, request.client, &mut input.event);
     input.held = is_own(start, reply);
@@ -68,9 +67,8 @@ pub fn receive_at<R: Wait, P: BufferPort>(
 ) -> Received
     requires input { number < length inputs.old }
     requires port { number < length ports.old }
-    ensures receives { StepsInput (ReceivesInput start request result) number
-        (inputs_at inputs.old (map P.access ports.old))
-        (inputs_at inputs.new (map P.access ports.new)) }
+    ensures reads { OneStep P.access (ReceivesInput start request result) number
+        inputs.old ports.old inputs.new ports.new }
     ensures many { length ports.new ≡ length ports.old }
 {
     let Some(input) = inputs.get_mut(number) else {

@@ -1,1 +1,2 @@
 pub mod LoggerRows
+pub mod BuilderRows

@@ -31,15 +31,15 @@ invariant_of-self-in-Err g c =
     ready_not_started c.self.inside.id c.self.inside.limit (inputs_at c.self.inside.inputs (map g.P.BufferPort.access c.args.ports.now)) (inputs_at c.cancel_all.new.inputs (map g.P.BufferPort.access c.cancel_all.new.ports)) _ c.self.inside.run _ c.self.inside.body c.self.invariant
     (omega (arith, c.requires.ports, ap (λ (s : BuilderState). length s.inputs) c.self.view_is, length-map c.args.ports.now g.P.BufferPort.access)) c.cancel_all.ensures c.in-Err.ensures.refuses
 
-pub returns-in-Ok-clause-starts : goal.returns-in-Ok-clause-starts
-returns-in-Ok-clause-starts g c = rw (c.plain.ensures, ← c.self.view_is) (record {
+pub returns-in-Ok-clause-asks : goal.returns-in-Ok-clause-asks
+returns-in-Ok-clause-asks g c = rw (c.plain.ensures, ← c.self.view_is) (record {
   dropped = inputs_at c.cancel_all.new.inputs (map g.P.BufferPort.access c.cancel_all.new.ports);
   drops = c.cancel_all.ensures;
   asks = (refl, refl, c.in-Ok.ensures.asks);
 })
 
-pub returns-in-Err-clause-starts : goal.returns-in-Err-clause-starts
-returns-in-Err-clause-starts g c = rw (← c.self.view_is) (record {
+pub returns-in-Err-clause-asks : goal.returns-in-Err-clause-asks
+returns-in-Err-clause-asks g c = rw (← c.self.view_is) (record {
   dropped = inputs_at c.cancel_all.new.inputs (map g.P.BufferPort.access c.cancel_all.new.ports);
   drops = c.cancel_all.ensures;
   asks = (refl, refl, c.in-Err.ensures.refuses);
