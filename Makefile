@@ -1,4 +1,4 @@
-.PHONY: try run test bench stress faults
+.PHONY: try run test bench stress faults wrong-bodies
 
 # Plays the first script by a program that is compiled without a proof: some two minutes on a new machine.
 try:
@@ -28,3 +28,7 @@ stress:
 faults:
 	@./bench/build
 	@./bench/faults.sh crates/midas/out/midas
+
+# Each wrong body that the gate leaves out has to be refused: an hour of a processor.
+wrong-bodies:
+	@./bench/wrong_bodies.sh $$(ls crates/*/must-fail/*.md | cut -d/ -f2 | sort -u)
