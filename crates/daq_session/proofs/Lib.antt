@@ -11,4 +11,6 @@ pub mod NothingLaws
 pub mod MembersLaws
 pub mod PlayedLaws
 pub mod FailedLaws
-pub mod FramedFiles
+pub mod DeclaredLines
+pub mod Promises
+pub mod WrittenLines

@@ -104,7 +104,7 @@ at_map f (x ∷ slots) (suc n) = at_map f slots n
 abbrev spec_of : Channel → ChannelSpec
 spec_of c = c.spec
 
-spec_at : (slots : List (Option Channel)) (n : ℕ) (c : Channel) → slot_at slots n ≡ Some c → slot_at (specs_in slots) n ≡ Some c.spec
+pub spec_at : (slots : List (Option Channel)) (n : ℕ) (c : Channel) → slot_at slots n ≡ Some c → slot_at (specs_in slots) n ≡ Some c.spec
 spec_at slots n c at = at_map spec_of slots n ∙ ap (option_map spec_of) at
 
 pub mapped : {X Y : Type 0} (f : X → Y) (xs : List X) (n : ℕ) (y : Y) → slice_get (map f xs) n ≡ Some y → (x : X) × (slice_get xs n ≡ Some x) × (f x ≡ y)
@@ -113,7 +113,7 @@ mapped f (x ∷ xs) zero y at = (x, refl, cc at)
 mapped f (x ∷ xs) (suc n) y at = mapped f xs n y at
 
 -- The history of a buffer of the record.
-history_there : (buffers : List BufferRecord) (n : ℕ) (b : BufferRecord) → slice_get buffers n ≡ Some b → history_in (slice_get (map closed_buffer buffers) n) ≡ history_of b.closed
+pub history_there : (buffers : List BufferRecord) (n : ℕ) (b : BufferRecord) → slice_get buffers n ≡ Some b → history_in (slice_get (map closed_buffer buffers) n) ≡ history_of b.closed
 history_there buffers n b at = ap history_in (slice_get-map closed_buffer buffers n ∙ ap (option_map closed_buffer) at)
 
 size_there : (buffers : List BufferRecord) (n : ℕ) (b : BufferRecord) → slice_get buffers n ≡ Some b → size_in (slice_get (map closed_buffer buffers) n) ≡ b.size

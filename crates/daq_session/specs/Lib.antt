@@ -9,3 +9,6 @@ pub mod Sessions
 pub mod Opened
 pub mod Played
 pub mod FramedFiles
+pub mod DeclaredLines
+pub mod Promises
+pub mod WrittenLines

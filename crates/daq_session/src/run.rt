@@ -1,5 +1,5 @@
 // A whole script.
-ghost use Rattle.std.specs.Prelude.{◌≡◌, ◌∷◌, ◌≤◌, ◌+◌, []};
+ghost use Rattle.std.specs.Prelude.{◌≡◌, ◌≢◌, ◌∷◌, ◌≤◌, ◌+◌, [], IfSome};
 ghost use Rattle.daq_types.specs.Callers.{main_caller};
 ghost use Rattle.turn_lock.specs.Passes.{passes_of, number_of, IsOf};
 ghost use Rattle.turn_lock.specs.Roster.{IsFresh};
@@ -9,10 +9,12 @@ ghost use Rattle.session_setup.specs.Setup.{AreSound, declared_by, nothing_decla
 ghost use Rattle.session_setup.specs.SetupLines.{opened_with_defaults};
 ghost use Rattle.session_objects.specs.Rosters.{KeepsFresh};
 ghost use Rattle.console.specs.LineLoops.{IsUnreadScript};
-ghost use Rattle.daq_session.specs.Environments.{outside_told};
+ghost use Rattle.daq_session.specs.declared.ends.ScriptEnd.TheVariants.{NoMemory};
+ghost use Rattle.daq_session.specs.Environments.{environment, outside_told};
 ghost use Rattle.daq_session.specs.NewDatabases.{IsNewDatabase, IsNewSession, IsUnopenedSession, database_passes};
 ghost use Rattle.daq_session.specs.Played.{PlaysAll, PlaysSession};
-ghost use Rattle.daq_session.specs.FramedFiles.{ClosesFramedFiles};
+ghost use Rattle.daq_session.specs.DeclaredLines.{ForSession};
+ghost use Rattle.daq_session.specs.Promises.{AnswerOnce, DeliverOwed, EndAll, EndsWell, FitCalls, FrontEndsSend, HasOneDatabase, HaveOneHistory, HaveReports, HaveRunFiles, NothingFailed, OthersStay, WroteReplies};
 ghost use Rattle.daq_session.specs.Sessions.{RunsScript};
 
 use crate::ends::{ScriptEnd, end_of};
@@ -281,8 +283,33 @@ pub fn run_script<
 )
     ensures ran { RunsScript (outside_told S.told O.told F.told E.told C.told)
         outside result.3 result.0 result.2.replies result.1 }
-    ensures files { ClosesFramedFiles (outside_told S.told O.told F.told E.told C.told)
-        outside result.3 result.1 }
+    // The promises, each by itself, of the session that was opened, if one was.
+    ensures one_history { IfSome result.1 (λ session. HaveOneHistory session) }
+    ensures delivery { IfSome result.1 (λ session. DeliverOwed session) }
+    ensures front_end_sends { ForSession result.1 (S.told outside.src) (S.told result.3.src)
+        (λ declared session. FrontEndsSend declared session) }
+    ensures run_files { ForSession result.1 (S.told outside.src) (S.told result.3.src)
+        (λ declared session. HaveRunFiles (F.told result.3.run_files).seen declared session) }
+    ensures reports { ForSession result.1 (S.told outside.src) (S.told result.3.src)
+        (λ declared session. HaveReports declared session) }
+    ensures records { ForSession result.1 (S.told outside.src) (S.told result.3.src)
+        (λ declared session. FitCalls declared session) }
+    ensures database { ForSession result.1 (S.told outside.src) (S.told result.3.src)
+        (λ declared session. HasOneDatabase declared session) }
+    ensures other_files { ForSession result.1 (S.told outside.src) (S.told result.3.src)
+        (λ declared session. OthersStay (F.told outside.run_files) (F.told result.3.run_files)
+        declared session) }
+    ensures one_answer { IfSome result.1 (λ session. AnswerOnce
+        (F.told outside.run_files) (F.told result.3.run_files) session) }
+    ensures completeness { result.0 ≢ NoMemory → IfSome result.1 (λ session. EndAll
+        (F.told outside.run_files) (F.told result.3.run_files) session) }
+    ensures console { WroteReplies
+        (environment (outside_told S.told O.told F.told E.told C.told) outside)
+        (environment (outside_told S.told O.told F.told E.told C.told) result.3) result.0 }
+    ensures well { result.0 ≢ NoMemory → NothingFailed
+        (environment (outside_told S.told O.told F.told E.told C.told) outside)
+        (environment (outside_told S.told O.told F.told E.told C.told) result.3)
+        → EndsWell result.0 }
 {
     let (Ok(line_loop), Ok(declarations), Ok(database)) = (
         LineLoop::new(alloc),

@@ -1,5 +1,5 @@
 -- What the program's call of `midas` is, over all that it touches outside itself.
-use Rattle.std.specs.Prelude.{◌≡◌, ◌≢◌, ◌↔◌, ◌⊎◌, ℕ, List, [], ◌∷◌, Option, Some, None, Result, Ok, Err}
+use Rattle.std.specs.Prelude.{◌≡◌, ◌≢◌, ◌↔◌, ◌⊎◌, ℕ, List, [], ◌∷◌, Option, Some, None, IfSome, Result, Ok, Err}
 use Rattle.std.specs.Io.KnownBytes.{Appends}
 use Rattle.std.specs.IoError.{error_kind}
 use Rattle.std.specs.declared.io.Error.{Error}
@@ -14,8 +14,9 @@ use Rattle.daq_std.specs.GivenWords.{IsBehindName}
 use Rattle.daq_std.specs.InBlocks.{InBlocks}
 use Rattle.command_words.specs.CommandLine.{HasForm, IsGenerate, IsOnFiles, IsRunWords}
 use Rattle.command_words.specs.declared.forms.Tool.{Tool}
-use Rattle.daq_session.specs.Environments.{OutsideTold}
-use Rattle.daq_session.specs.FramedFiles.{ClosesFramedFiles}
+use Rattle.daq_session.specs.DeclaredLines.{ForSession}
+use Rattle.daq_session.specs.Environments.{OutsideTold, environment}
+use Rattle.daq_session.specs.Promises.{AnswerOnce, DeliverOwed, EndAll, EndsWell, FitCalls, FrontEndsSend, HasOneDatabase, HaveOneHistory, HaveReports, HaveRunFiles, NothingFailed, OthersStay, WroteReplies}
 use Rattle.daq_session.specs.Sessions.{RunsScript}
 use Rattle.daq_session.specs.declared.ends.ScriptEnd.{ScriptEnd}
 use Rattle.midas_cli.specs.Generating.{Generates}
@@ -63,7 +64,29 @@ pub record MidasRan {S O F E C K : Type 0} (told : OutsideTold S O F E C) (words
   pub picks : ¬ IsRunWords words → after.pick ≡ before.pick
   pub session : ¬ IsRunWords words → outcome.session ≡ None
   pub file_replies : ¬ IsRunWords words → outcome.file_replies.replies ≡ []
-  pub run_files : (outcome.session ≡ None) ⊎ ClosesFramedFiles told before after outcome.session
+  pub one_history : IfSome outcome.session (λ session. HaveOneHistory session)
+  pub delivery : IfSome outcome.session (λ session. DeliverOwed session)
+  pub front_end_sends : ForSession outcome.session (told.source before.src) (told.source after.src)
+      (λ declared session. FrontEndsSend declared session)
+  pub run_files : ForSession outcome.session (told.source before.src) (told.source after.src)
+      (λ declared session. HaveRunFiles (told.crew.read after.run_files).seen declared session)
+  pub reports : ForSession outcome.session (told.source before.src) (told.source after.src)
+      (λ declared session. HaveReports declared session)
+  pub records : ForSession outcome.session (told.source before.src) (told.source after.src)
+      (λ declared session. FitCalls declared session)
+  pub database : ForSession outcome.session (told.source before.src) (told.source after.src)
+      (λ declared session. HasOneDatabase declared session)
+  pub other_files : ForSession outcome.session (told.source before.src) (told.source after.src)
+      (λ declared session. OthersStay (told.crew.read before.run_files) (told.crew.read after.run_files) declared session)
+  pub one_answer : IfSome outcome.session
+      (λ session. AnswerOnce (told.crew.read before.run_files) (told.crew.read after.run_files) session)
+  pub completeness : outcome.cause ≢ NoMemory → IfSome outcome.session
+      (λ session. EndAll (told.crew.read before.run_files) (told.crew.read after.run_files) session)
+  pub console : IsRunWords words → ((end : ScriptEnd) × (outcome.cause ≡ script_cause end)
+      × WroteReplies (environment told before) (environment told after) end)
+      ⊎ ((outcome.cause ≡ NoMemory) × (after ≡ before))
+  pub ends_well : IsRunWords words → outcome.cause ≢ NoMemory → NothingFailed (environment told before) (environment told after) →
+      (end : ScriptEnd) × (outcome.cause ≡ script_cause end) × EndsWell end
   pub ran : IsRunWords words → ((end : ScriptEnd) × (outcome.cause ≡ script_cause end)
       × RunsScript told before after end outcome.file_replies.replies outcome.session)
       ⊎ ((outcome.cause ≡ NoMemory) × (outcome.session ≡ None) × (outcome.file_replies.replies ≡ []) × (after ≡ before))

@@ -1,12 +1,13 @@
-ghost use Rattle.std.specs.Prelude.{◌≡◌, ◌↔◌, ◌⊎◌, ℕ, List, [], None};
+ghost use Rattle.std.specs.Prelude.{◌≡◌, ◌≢◌, ◌↔◌, ◌⊎◌, ℕ, List, [], None, IfSome};
 ghost use Rattle.std.specs.Io.KnownBytes.{Appends};
 ghost use Rattle.daq_io.specs.Counts.{Rose};
 ghost use Rattle.daq_io.specs.Seen.{Same};
 ghost use Rattle.daq_io.specs.Streams.{AppendsPart};
 ghost use Rattle.command_words.specs.CommandLine.{HasForm, IsGenerate, IsOnFiles, IsRunWords};
 ghost use Rattle.command_words.specs.declared.forms.Tool.{Tool};
-ghost use Rattle.daq_session.specs.Environments.{outside_told};
-ghost use Rattle.daq_session.specs.FramedFiles.{ClosesFramedFiles};
+ghost use Rattle.daq_session.specs.DeclaredLines.{ForSession};
+ghost use Rattle.daq_session.specs.Environments.{environment, outside_told};
+ghost use Rattle.daq_session.specs.Promises.{AnswerOnce, DeliverOwed, EndAll, EndsWell, FitCalls, FrontEndsSend, HasOneDatabase, HaveOneHistory, HaveReports, HaveRunFiles, NothingFailed, OthersStay, WroteReplies};
 ghost use Rattle.daq_session.specs.Sessions.{RunsScript};
 ghost use Rattle.daq_session.specs.declared.ends.ScriptEnd.{ScriptEnd};
 ghost use Rattle.midas_cli.specs.Generating.{Generates};
@@ -78,10 +79,39 @@ pub fn midas<
     ensures picks { ¬ IsRunWords words.now → result.1.pick ≡ outside.pick }
     ensures session { ¬ IsRunWords words.now → result.0.session ≡ None }
     ensures file_replies { ¬ IsRunWords words.now → result.0.file_replies.replies ≡ [] }
-    // The run files: those of each channel that ended in a run are framed pieces that join to all events of front-ends in the run for
-    // which the channel asks, in each front-end's order.
-    ensures run_files { (result.0.session ≡ None) ⊎ ClosesFramedFiles
-        (outside_told S.told O.told F.told E.told C.told) outside result.1 result.0.session }
+    // Of the session of the outcome, if a start opened one: each promise by itself, for what its script declared. Of some of
+    // them `ran` says more: of one_history who called; of front_end_sends what each set in the database; of run_files how a
+    // channel's limit cuts them, and that its client got these events alone; of records and database which line made a call; of
+    // one_answer that no fault is counted without one.
+    ensures one_history { IfSome result.0.session (λ session. HaveOneHistory session) }
+    ensures delivery { IfSome result.0.session (λ session. DeliverOwed session) }
+    ensures front_end_sends { ForSession result.0.session (S.told outside.src)
+        (S.told result.1.src) (λ declared session. FrontEndsSend declared session) }
+    ensures run_files { ForSession result.0.session (S.told outside.src) (S.told result.1.src)
+        (λ declared session. HaveRunFiles (F.told result.1.run_files).seen declared session) }
+    ensures reports { ForSession result.0.session (S.told outside.src) (S.told result.1.src)
+        (λ declared session. HaveReports declared session) }
+    ensures records { ForSession result.0.session (S.told outside.src) (S.told result.1.src)
+        (λ declared session. FitCalls declared session) }
+    ensures database { ForSession result.0.session (S.told outside.src) (S.told result.1.src)
+        (λ declared session. HasOneDatabase declared session) }
+    ensures other_files { ForSession result.0.session (S.told outside.src) (S.told result.1.src)
+        (λ declared session. OthersStay (F.told outside.run_files) (F.told result.1.run_files)
+        declared session) }
+    ensures one_answer { IfSome result.0.session (λ session. AnswerOnce
+        (F.told outside.run_files) (F.told result.1.run_files) session) }
+    // And where memory was not wanting and no fault was counted, each channel ended. When a start is completed, `ran` says.
+    ensures completeness { result.0.cause ≢ Cause.NoMemory → IfSome result.0.session
+        (λ session. EndAll (F.told outside.run_files) (F.told result.1.run_files) session) }
+    // The words of a session: what was written, and that all ends well where nothing failed. Which reply a line has, `ran` says.
+    ensures console { IsRunWords words.now → ((end : ScriptEnd) × (result.0.cause ≡ script_cause end)
+        × WroteReplies (environment (outside_told S.told O.told F.told E.told C.told) outside)
+        (environment (outside_told S.told O.told F.told E.told C.told) result.1) end)
+        ⊎ ((result.0.cause ≡ Cause.NoMemory) × (result.1 ≡ outside)) }
+    ensures ends_well { IsRunWords words.now → result.0.cause ≢ Cause.NoMemory → NothingFailed
+        (environment (outside_told S.told O.told F.told E.told C.told) outside)
+        (environment (outside_told S.told O.told F.told E.told C.told) result.1)
+        → (end : ScriptEnd) × (result.0.cause ≡ script_cause end) × EndsWell end }
     // The words of a session: how the script ended, what it did, and what the record of its session tells of the histories, of
     // the runs and of their files; or nothing was done where the words found no memory.
     ensures ran { IsRunWords words.now → ((end : ScriptEnd) × (result.0.cause ≡ script_cause end)

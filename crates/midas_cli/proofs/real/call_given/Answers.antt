@@ -26,6 +26,17 @@ returns-clause-ran g c =
       picks = m.picks;
       session = m.session;
       file_replies = m.file_replies;
+      one_history = m.one_history;
+      delivery = m.delivery;
+      front_end_sends = m.front_end_sends;
       run_files = m.run_files;
+      reports = m.reports;
+      records = m.records;
+      database = m.database;
+      other_files = m.other_files;
+      one_answer = m.one_answer;
+      completeness = m.completeness;
+      console = m.console;
+      ends_well = m.ends_well;
       ran = m.ran;
     })
